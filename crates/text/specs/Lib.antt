@@ -1,0 +1,9 @@
+pub mod Limits
+pub mod Draft
+pub mod Fault
+pub mod Token
+pub mod Lexer
+pub mod Grammar
+pub mod Read
+pub mod Put
+pub mod Write
