@@ -1,5 +1,7 @@
 //! Comparing two machines by a word that tells them apart, and judging two books.
 
+#![tactic(auto)]
+
 pub mod cell;
 pub mod compare;
 pub mod fault;

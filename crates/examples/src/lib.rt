@@ -1,5 +1,7 @@
 //! Worked examples and damaged inputs, tried on the product.
 
+#![tactic(auto)]
+
 mod books;
 mod buffers;
 #[cfg(test)]

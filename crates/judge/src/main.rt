@@ -1,5 +1,7 @@
 //! Judges two books read from standard input, and prints the report.
 
+#![tactic(auto)]
+
 ghost use Rattle.std.specs.Prelude.{◌≤◌, length, IfOk};
 
 use anyhow::anyhow;

@@ -1,5 +1,7 @@
 //! Books, the machines that they and their like are, and what timed words draw from a machine.
 
+#![tactic(auto)]
+
 pub mod allowance;
 pub mod book;
 pub mod book_machine;

@@ -1,5 +1,7 @@
 //! The text of a book: its tokens, the readers of its sections, and its writing.
 
+#![tactic(auto)]
+
 pub mod digits;
 pub mod draft;
 pub mod fault;

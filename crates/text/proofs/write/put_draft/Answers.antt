@@ -13,11 +13,11 @@ returns c =
     let rs : length d.rows.all ≡ max_rows = search rules in
     record {
       puts =
-          puts_then c.put-head-at.ensures.puts (
-          puts_then c.put-head-at-2.ensures.puts (
-          puts_then c.put-head-at-3.ensures.puts (
-          puts_then (puts_as (ap (flat_map state_line) (part_is d.states.all d.states.count _ max_states ss c.min-states.ensures)) c.put-states-at.ensures.puts) (
-          puts_then c.put-head-at-4.ensures.puts (
-          puts_as (ap (flat_map row_line) (part_is d.rows.all d.rows.count _ max_rows rs c.min-rows.ensures)) c.put-rows.ensures.puts)))));
-      short = omega (arith, c.put-head-at.ensures.short, c.put-head-at-2.ensures.short, c.put-head-at-3.ensures.short, c.put-states-at.ensures.short, part_short d.states.all d.states.count c.min-states.result max_states ss c.min-states.ensures, c.put-head-at-4.ensures.short, part_short d.rows.all d.rows.count c.min-rows.result max_rows rs c.min-rows.ensures, c.put-rows.ensures.short);
+          puts_then c.put_head-at.ensures.puts (
+          puts_then c.put_head-at-2.ensures.puts (
+          puts_then c.put_head-at-3.ensures.puts (
+          puts_then (puts_as (ap (flat_map state_line) (part_is d.states.all d.states.count _ max_states ss c.min-states.ensures)) c.put_states-at.ensures.puts) (
+          puts_then c.put_head-at-4.ensures.puts (
+          puts_as (ap (flat_map row_line) (part_is d.rows.all d.rows.count _ max_rows rs c.min-rows.ensures)) c.put_rows.ensures.puts)))));
+      short = omega (arith, c.put_head-at.ensures.short, c.put_head-at-2.ensures.short, c.put_head-at-3.ensures.short, c.put_states-at.ensures.short, part_short d.states.all d.states.count c.min-states.result max_states ss c.min-states.ensures, c.put_head-at-4.ensures.short, part_short d.rows.all d.rows.count c.min-rows.result max_rows rs c.min-rows.ensures, c.put_rows.ensures.short);
     }

@@ -4,6 +4,6 @@ use Rattle.text.proofs.write.put_guard.Goals as goal
 
 pub returns : goal.returns
 returns c = record {
-  puts = puts_then (puts_as (ap (λ b. b ∷ []) c.opening.ensures) c.put-bytes-at.ensures) (puts_number _ _ _ c.put-number-at.ensures.puts c.put-high.ensures.puts);
-  short = omega (arith, c.put-bytes-at.ensures.long, c.put-number-at.ensures.short, c.put-high.ensures.short);
+  puts = puts_then (puts_as (ap (λ b. b ∷ []) c.opening.ensures) c.put_bytes-at.ensures) (puts_number _ _ _ c.put_number-at.ensures.puts c.put_high.ensures.puts);
+  short = omega (arith, c.put_bytes-at.ensures.long, c.put_number-at.ensures.short, c.put_high.ensures.short);
 }

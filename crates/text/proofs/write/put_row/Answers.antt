@@ -5,10 +5,10 @@ use Rattle.text.proofs.write.put_row.Goals as goal
 pub returns : goal.returns
 returns c = record {
   puts =
-      puts_number _ _ _ c.put-number-at.ensures.puts (
-      puts_number _ _ _ c.put-number-at-2.ensures.puts (
-      puts_then c.put-guard-at.ensures.puts (
-      puts_then c.put-bytes-at.ensures (
-      puts_number _ _ _ c.put-number-at-3.ensures.puts c.put-number.ensures.puts))));
-  short = omega (arith, c.put-number-at.ensures.short, c.put-number-at-2.ensures.short, c.put-guard-at.ensures.short, c.put-bytes-at.ensures.long, c.put-number-at-3.ensures.short, c.put-number.ensures.short);
+      puts_number _ _ _ c.put_number-at.ensures.puts (
+      puts_number _ _ _ c.put_number-at-2.ensures.puts (
+      puts_then c.put_guard-at.ensures.puts (
+      puts_then c.put_bytes-at.ensures (
+      puts_number _ _ _ c.put_number-at-3.ensures.puts c.put_number.ensures.puts))));
+  short = omega (arith, c.put_number-at.ensures.short, c.put_number-at-2.ensures.short, c.put_guard-at.ensures.short, c.put_bytes-at.ensures.long, c.put_number-at-3.ensures.short, c.put_number.ensures.short);
 }

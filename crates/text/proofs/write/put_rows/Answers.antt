@@ -6,7 +6,7 @@ use Rattle.text.proofs.Puts.{puts_line, puts_as}
 use Rattle.text.proofs.write.put_rows.Goals as goal
 
 pub loop-row-preserved : goal.loop-row-preserved
-loop-row-preserved c = (puts_line row_line _ _ _ c.loop-row-test.true c.loop-row.invariant.0 c.put-row-at.ensures.puts, omega (arith, c.loop-row.invariant.1, c.put-row-at.ensures.short))
+loop-row-preserved c = (puts_line row_line _ _ _ c.loop-row-test.true c.loop-row.invariant.0 c.put_row-at.ensures.puts, omega (arith, c.loop-row.invariant.1, c.put_row-at.ensures.short))
 
 pub returns : goal.returns
 returns c = record {

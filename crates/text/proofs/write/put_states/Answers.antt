@@ -6,7 +6,7 @@ use Rattle.text.proofs.Puts.{puts_line, puts_as}
 use Rattle.text.proofs.write.put_states.Goals as goal
 
 pub loop-state-preserved : goal.loop-state-preserved
-loop-state-preserved c = (puts_line state_line _ _ _ c.loop-state-test.true c.loop-state.invariant.0 c.put-state-at.ensures.puts, omega (arith, c.loop-state.invariant.1, c.put-state-at.ensures.short))
+loop-state-preserved c = (puts_line state_line _ _ _ c.loop-state-test.true c.loop-state.invariant.0 c.put_state-at.ensures.puts, omega (arith, c.loop-state.invariant.1, c.put_state-at.ensures.short))
 
 pub returns : goal.returns
 returns c = record {

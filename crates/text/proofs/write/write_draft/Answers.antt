@@ -5,10 +5,10 @@ use Rattle.text.proofs.write.write_draft.Goals as goal
 
 pub returns-then-end-buffer : goal.returns-then-end-buffer
 returns-then-end-buffer c =
-    let p = too_short c.put-draft-end.ensures.puts c.args.buffer.now c.if-end-buffer.true in
-    record { answers = p.0; fills = p.1; short = omega (arith, c.put-draft-end.ensures.short, c.put-draft-end.ensures.puts.long); back = reads_back c.args.draft.now }
+    let p = too_short c.put_draft-end.ensures.puts c.args.buffer.now c.if-end-buffer.true in
+    record { answers = p.0; fills = p.1; short = omega (arith, c.put_draft-end.ensures.short, c.put_draft-end.ensures.puts.long); back = reads_back c.args.draft.now }
 
 pub returns : goal.returns
 returns c =
-    let p = copied c.put-draft-end.ensures.puts c.args.buffer.now _ c.if-end-buffer.false c.copy-from-slice.ensures.after in
-    record { answers = p.0; fills = p.1; short = omega (arith, c.put-draft-end.ensures.short, c.put-draft-end.ensures.puts.long); back = reads_back c.args.draft.now }
+    let p = copied c.put_draft-end.ensures.puts c.args.buffer.now _ c.if-end-buffer.false c.copy_from_slice.ensures.after in
+    record { answers = p.0; fills = p.1; short = omega (arith, c.put_draft-end.ensures.short, c.put_draft-end.ensures.puts.long); back = reads_back c.args.draft.now }

@@ -11,8 +11,8 @@ loop-rest-preserved c = writing_more c.loop-rest.invariant (omega arith)
 pub returns : goal.returns
 returns c = written_all c.loop-rest.invariant (omega arith)
 
-pub overflow-sub-from : goal.overflow-sub-from
-overflow-sub-from c = some_room c.loop-rest.invariant
+pub overflow_sub-from : goal.overflow_sub-from
+overflow_sub-from c = some_room c.loop-rest.invariant
 
-pub overflow-sub-from-2 : goal.overflow-sub-from-2
-overflow-sub-from-2 c = some_room c.loop-rest.invariant
+pub overflow_sub-from-2 : goal.overflow_sub-from-2
+overflow_sub-from-2 c = some_room c.loop-rest.invariant
