@@ -37,6 +37,7 @@ def turned(text, spelt):
 
     text = re.sub(r"(\.)(" + NAME + r")", of_name, text)
     text = re.sub(r"(?m)^((?:abbrev |pub )*)(" + NAME + r")(?= )", lambda it: of_name(it) if it[2] not in ("abbrev", "pub", "use") else it[0], text)
+    text = re.sub(r"([\[|] )((?:then|else)-[\w'-]+)", of_name, text)
     return re.sub(r"(?m)^(use [\w.'-]+\.Goals\.)(\{[^}]*\})", of_import, text)
 
 
@@ -52,6 +53,7 @@ def main(argv):
         folder = os.path.join("crates", argv[1], "proofs", *key[len(f"Rattle-{argv[1]}-proofs.") : -len(".Lts")].split("."))
         found = set()
         words(value, found)
+        found |= {branch + name[len("if") :] for name in found if name.startswith("if-") for branch in ("then", "else")}
         spelt = {}
         for name in sorted(found):
             spelt.setdefault(name.replace("_", "-"), name)

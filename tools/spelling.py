@@ -21,6 +21,7 @@ BOUND = re.compile(r"(?:\blet\s+|λ\s+|λ\s+\(|[({]|[({](?:[A-Za-z0-9_'-]+\s+)+)
 RECORD = re.compile(r"^(\s*)(?:pub\s+)?record\b.*\bwhere\s*$")
 OURS = re.compile(r"Rattle\.(?:text|table|compare|judge)\.")
 IMPORT = re.compile(r"^(?:ghost )?use ([\w.]+)\.\{([^}]*)\}", re.M)
+MODULE = re.compile(r"^use [\w.]+ as ([\w]+)$", re.M)
 
 # ghost fields of a book, and the fields of its soundness that say the same
 ALIKE = {"none_empty", "none_past", "one_row", "rows_padded", "states_padded"}
@@ -87,9 +88,11 @@ def main(argv):
         return 1
     for path, text in texts.items():
         kept = library(text)
+        modules = MODULE.findall(text)
 
         def spelt(it):
-            after_dot = it.start() > 0 and text[it.start() - 1] == "."
+            before = text[: it.start()]
+            after_dot = before.endswith(".") and not re.search(r"(?<![\w.-])(?:" + "|".join(modules or ["-"]) + r")\.$", before[-40:])
             return it[0] if it[0] not in names or it[0] in kept or (after_dot and it[0] not in fields) else flat[it[0]]
 
         turned = WORD.sub(spelt, text)

@@ -14,7 +14,7 @@ number_of Entries = 33
 number_of Report = 35
 
 abbrev pub layer_of : CompareFault → List ℕ
-layer_of (Table f) = table.layer-of f
+layer_of (Table f) = table.layer_of f
 layer_of Inputs = codes "compare"
 layer_of Cells = codes "compare"
 layer_of Entries = codes "compare"

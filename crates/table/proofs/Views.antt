@@ -1,10 +1,10 @@
--- A view's table: an entry without a fault is an output, and a view of a lawful machine is lawful.
+-- A view's table: an entry without a fault is an output, and so is what a view passes on.
 use Rattle.std.proofs.Common.{◌≡◌, ℕ, ◌<◌, ◌≤◌, ◌&&◌, ltb, List, get_or, Some, None, Option, sym, ap, subst}
 use Rattle.std.proofs.lemmas.Bool.{leb-false, le-leb, lt-leb, and_parts, ltb-true}
 use Rattle.text.specs.Limits.{max_outputs}
 use Rattle.table.specs.declared.fault.TableFault.TheVariants.{Output}
 use Rattle.table.specs.Meaning.{Meaning, Lawful, given_if}
-use Rattle.table.specs.View.{AllOutputs, entry_fault, table_fault, passed}
+use Rattle.table.specs.View.{AllOutputs, entry_fault, table_fault}
 use Rattle.table.specs.Firsts.{first_none}
 use Rattle.table.specs.GivenIf.{given_some, given_none}
 
@@ -23,14 +23,3 @@ taken_small m law s i next output e =
     let g = given_some (ltb s m.count && ltb i m.inputs) (next, output) (m.take s i) (sym e) in
     let p = and_parts _ _ g.0 in
     subst (λ (x : ℕ × ℕ). x.1 < max_outputs) g.1 (law.output_in s i (ltb-true _ _ p.0) (ltb-true _ _ p.1))
-
-pub view_lawful : (m : Meaning) (es : List ℕ) → AllOutputs es → Lawful m → Lawful (record { count = m.count; inputs = m.inputs; start = m.start; tick = m.tick; take = λ s i. passed es (m.take s i) })
-view_lawful m es small law = record {
-  few_states = law.few_states;
-  some_input = law.some_input;
-  few_inputs = law.few_inputs;
-  start_in = law.start_in;
-  tick_in = law.tick_in;
-  next_in = law.next_in;
-  output_in = λ s i l k. small (m.take s i).1 (law.output_in s i l k);
-}

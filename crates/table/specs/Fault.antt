@@ -17,7 +17,7 @@ number_of QuietDays = 26
 number_of (Output k) = 27
 
 abbrev pub layer_of : TableFault → List ℕ
-layer_of (Text f) = text.layer-of f
+layer_of (Text f) = text.layer_of f
 layer_of (EmptyGuard k) = codes "table"
 layer_of (PastTimeout k) = codes "table"
 layer_of (TwoRows s i r) = codes "table"

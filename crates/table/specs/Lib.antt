@@ -16,6 +16,7 @@ pub mod Padding
 pub mod Fresh
 pub mod BookMachine
 pub mod View
+pub mod ViewLaw
 pub mod Allowance
 pub mod Read
 pub mod Allowances

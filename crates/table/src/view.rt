@@ -2,6 +2,7 @@
 
 ghost use Rattle.std.specs.Prelude.{◌≡◌, Some, None, MatchResult};
 ghost use Rattle.table.specs.View.{same_outputs, table_fault, passed};
+ghost use Rattle.table.specs.ViewLaw.{view_lawful};
 
 use crate::fault::TableFault;
 use crate::limits::OUTPUT_ENTRIES;
@@ -74,6 +75,8 @@ impl<M: Machine> Machine for View<M> {
     ghost tick = { λ v s. M.Machine.tick v.below s };
 
     ghost take = { λ v s i. passed v.table.entries (M.Machine.take v.below s i) };
+
+    ghost lawful = { λ v. view_lawful (record { count = M.Machine.count v.below; inputs = M.Machine.inputs v.below; start = M.Machine.start v.below; tick = M.Machine.tick v.below; take = M.Machine.take v.below }) v.table.entries v.table.small (M.Machine.lawful v.below) };
 
     fn count(&self) -> u16 {
         self.below.count()

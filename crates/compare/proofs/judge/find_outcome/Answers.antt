@@ -5,5 +5,5 @@ use Rattle.compare.proofs.judge.find_outcome.Goals as goal
 
 pub returns : goal.returns
 returns c =
-    finds_answer (books_of c.args.input.now) c.in-Ok.books (length c.args.cells.now) c.args.word.now c.compare-in-answer.new.word _ c.compare-in-answer.result c.count.result c.count-2.result
-    c.in-Ok.ensures c.compare-in-answer.ensures.compared c.count.ensures c.count-2.ensures c.outcome-of.ensures
+    finds_answer (books_of c.args.input.now) c.in-Ok.books (length c.args.cells.now) c.args.word.now c.compare_in-answer.new.word _ c.compare_in-answer.result c.count.result c.count-2.result
+    c.in-Ok.ensures c.compare_in-answer.ensures.compared c.count.ensures c.count-2.ensures c.outcome_of.ensures

@@ -8,7 +8,7 @@ pub returns-then-state-count : goal.returns-then-state-count
 returns-then-state-count g c holding reached = omega (arith, reached_in (means g.M.Machine c.args.left.now) (g.met.M.Machine.lawful c.args.left.now) c.args.state reached, c.count.ensures, c.if-state-count.true)
 
 pub loop-other-preserved : goal.loop-other-preserved
-loop-other-preserved g c = below_more _ _ c.loop-other.invariant (c.is-seen.ensures.no c.if-is-seen.false)
+loop-other-preserved g c = below_more _ _ c.loop-other.invariant (c.is_seen.ensures.no c.if-is_seen.false)
 
 pub returns : goal.returns
 returns g c holding =
@@ -17,9 +17,9 @@ returns g c holding =
     (subst (λ (w : ℕ). (t : ℕ) → t < w → (at c.args.cells.now (c.args.state * w + t)).seen ≡ 1 → ⊥) c.count-width.ensures
     (λ t h. c.loop-other.invariant t (omega (arith, c.loop-other-test.false))))
 
-pub returns-then-is-seen : goal.returns-then-is-seen
-returns-then-is-seen g c holding =
+pub returns-then-is_seen : goal.returns-then-is_seen
+returns-then-is_seen g c holding =
     let seen : (at c.args.cells.now (c.args.state * g.N.Machine.count c.args.right.now + c.loop-other.other)).seen ≡ 1 =
-    subst (λ (w : ℕ). (at c.args.cells.now (c.args.state * w + c.loop-other.other)).seen ≡ 1) c.count-width.ensures (c.is-seen.ensures.yes c.if-is-seen.true) in
+    subst (λ (w : ℕ). (at c.args.cells.now (c.args.state * w + c.loop-other.other)).seen ≡ 1) c.count-width.ensures (c.is_seen.ensures.yes c.if-is_seen.true) in
     partner_found (means g.M.Machine c.args.left.now) (means g.N.Machine c.args.right.now) c.args.cells.now holding c.args.state c.loop-other.other
     (omega (arith, c.count.ensures, c.if-state-count.false)) (omega (arith, c.count-width.ensures, c.loop-other-test.true)) seen

@@ -8,8 +8,8 @@ use Rattle.compare.proofs.report.lines_length.Goals as goal
 pub loop-entry-preserved : goal.loop-entry-preserved
 loop-entry-preserved c =
     let more = lines_more entry_line c.args.entries.now c.loop-entry.entry-index no_entry c.loop-entry-test.true in
-    let is = c.line-length.ensures.is in
-    (omega (arith, c.loop-entry.invariant.0, more, is), omega (arith, c.loop-entry.invariant.1, c.line-length.ensures.short))
+    let is = c.line_length.ensures.is in
+    (omega (arith, c.loop-entry.invariant.0, more, is), omega (arith, c.loop-entry.invariant.1, c.line_length.ensures.short))
 
 pub returns : goal.returns
 returns c = record {

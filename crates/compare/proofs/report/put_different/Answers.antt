@@ -5,10 +5,10 @@ use Rattle.compare.proofs.report.put_different.Goals as goal
 pub returns : goal.returns
 returns c = record {
   puts =
-      puts_then c.put-bytes-at.ensures (
-      puts_then c.put-field-at.ensures.puts (
-      puts_then c.put-field-at-2.ensures.puts (
-      puts_then c.put-field-at-3.ensures.puts (
-      puts_then c.put-field-at-4.ensures.puts c.put-bytes.ensures))));
-  short = omega (arith, c.put-bytes-at.ensures.long, c.put-field-at.ensures.short, c.put-field-at-2.ensures.short, c.put-field-at-3.ensures.short, c.put-field-at-4.ensures.short, c.put-bytes.ensures.long);
+      puts_then c.put_bytes-at.ensures (
+      puts_then c.put_field-at.ensures.puts (
+      puts_then c.put_field-at-2.ensures.puts (
+      puts_then c.put_field-at-3.ensures.puts (
+      puts_then c.put_field-at-4.ensures.puts c.put_bytes.ensures))));
+  short = omega (arith, c.put_bytes-at.ensures.long, c.put_field-at.ensures.short, c.put_field-at-2.ensures.short, c.put_field-at-3.ensures.short, c.put_field-at-4.ensures.short, c.put_bytes.ensures.long);
 }

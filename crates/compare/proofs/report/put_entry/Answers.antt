@@ -4,6 +4,6 @@ use Rattle.compare.proofs.report.put_entry.Goals as goal
 
 pub returns : goal.returns
 returns c = record {
-  puts = puts_then c.put-number-at.ensures.puts (puts_then c.put-field-at.ensures.puts c.put-bytes.ensures);
-  short = omega (arith, c.put-number-at.ensures.short, c.put-field-at.ensures.short, c.put-bytes.ensures.long);
+  puts = puts_then c.put_number-at.ensures.puts (puts_then c.put_field-at.ensures.puts c.put_bytes.ensures);
+  short = omega (arith, c.put_number-at.ensures.short, c.put_field-at.ensures.short, c.put_bytes.ensures.long);
 }

@@ -3,4 +3,4 @@ use Rattle.text.proofs.Puts.{puts_then}
 use Rattle.compare.proofs.report.put_field.Goals as goal
 
 pub returns : goal.returns
-returns c = record { puts = puts_then c.put-bytes-at.ensures c.put-number.ensures.puts; short = omega (arith, c.put-bytes-at.ensures.long, c.put-number.ensures.short) }
+returns c = record { puts = puts_then c.put_bytes-at.ensures c.put_number.ensures.puts; short = omega (arith, c.put_bytes-at.ensures.long, c.put_number.ensures.short) }

@@ -15,15 +15,15 @@ some_row d s i n e ne = cond-false _ _ _ (ne_eqb _ _ (λ z. ne (e ∙ z)))
 pub returns-in-Some : goal.returns-in-Some
 returns-in-Some c =
     sym
-    (some_row c.args.draft.now c.args.state c.args.input _ c.count-rows-of.ensures (λ z. omega (arith, c.if-count-rows-of-eq0.false))
-    ∙ first_at (stretch_fault c.args.draft.now c.args.state c.args.input) c.loop-stretch.stretch (stretches c.args.draft.now c.args.state) _ (omega (arith, c.count-stretches-stretch-end.ensures.0, c.loop-stretch-test.true)) c.loop-stretch.invariant (sym c.in-Some.ensures))
+    (some_row c.args.draft.now c.args.state c.args.input _ c.count_rows_of.ensures (λ z. omega (arith, c.if-count_rows_of-eq0.false))
+    ∙ first_at (stretch_fault c.args.draft.now c.args.state c.args.input) c.loop-stretch.stretch (stretches c.args.draft.now c.args.state) _ (omega (arith, c.count_stretches-stretch-end.ensures.0, c.loop-stretch-test.true)) c.loop-stretch.invariant (sym c.in-Some.ensures))
 
 pub loop-stretch-preserved : goal.loop-stretch-preserved
 loop-stretch-preserved c = first_more (stretch_fault c.args.draft.now c.args.state c.args.input) c.loop-stretch.stretch c.loop-stretch.invariant (sym c.in-None.ensures)
 
 pub returns : goal.returns
 returns c =
-    let e : c.loop-stretch.stretch ≡ stretches c.args.draft.now c.args.state = omega (arith, c.count-stretches-stretch-end.ensures.0, c.loop-stretch-test.false, c.loop-stretch.auto.stretch-end) in
+    let e : c.loop-stretch.stretch ≡ stretches c.args.draft.now c.args.state = omega (arith, c.count_stretches-stretch-end.ensures.0, c.loop-stretch-test.false, c.loop-stretch.auto.stretch-end) in
     sym
-    (some_row c.args.draft.now c.args.state c.args.input _ c.count-rows-of.ensures (λ z. omega (arith, c.if-count-rows-of-eq0.false))
+    (some_row c.args.draft.now c.args.state c.args.input _ c.count_rows_of.ensures (λ z. omega (arith, c.if-count_rows_of-eq0.false))
     ∙ subst (λ n. first (stretch_fault c.args.draft.now c.args.state c.args.input) n ≡ None) e c.loop-stretch.invariant)

@@ -4,8 +4,8 @@ use Rattle.table.specs.Numbers.{below_suc, placed}
 use Rattle.table.specs.Books.{book_sound}
 use Rattle.table.proofs.book.Book.place_of.Goals as goal
 
-pub overflow-cast-result-then-sought-self : goal.overflow-cast-result-then-sought-self
-overflow-cast-result-then-sought-self c =
+pub overflow_cast-result-then-sought-self : goal.overflow_cast-result-then-sought-self
+overflow_cast-result-then-sought-self c =
     let b = c.args.self.now.numbered c.loop-state.state (omega arith) in
     let d = c.args.self.now.numbered (c.loop-state.state + 1) (omega arith) in
     let e = below_suc c.args.self.now.draft c.loop-state.state in

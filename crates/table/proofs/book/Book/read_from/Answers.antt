@@ -3,8 +3,8 @@ use Rattle.table.proofs.book.Book.read_from.Goals as goal
 
 pub returns : goal.returns
 returns c = record {
-  is = c.replace-from.ensures;
-  exactly = reads_exactly c.args.text.now c.args.from c.args.self.now _ _ c.replace-from.ensures;
-  refused = refuses_text c.args.text.now c.args.from c.args.self.now _ _ c.replace-from.ensures;
-  checked = checks_table c.args.text.now c.args.from c.args.self.now _ _ c.replace-from.ensures;
+  is = c.replace_from.ensures;
+  exactly = reads_exactly c.args.text.now c.args.from c.args.self.now _ _ c.replace_from.ensures;
+  refused = refuses_text c.args.text.now c.args.from c.args.self.now _ _ c.replace_from.ensures;
+  checked = checks_table c.args.text.now c.args.from c.args.self.now _ _ c.replace_from.ensures;
 }

@@ -3,9 +3,9 @@ use Rattle.table.proofs.book.Book.write.Goals as goal
 
 pub returns : goal.returns
 returns c = record {
-  answers = c.put-text.ensures.answers;
-  fills = c.put-text.ensures.fills;
-  short = c.put-text.ensures.short;
+  answers = c.put_text.ensures.answers;
+  fills = c.put_text.ensures.fills;
+  short = c.put_text.ensures.short;
   back = reads_back c.args.self.now;
-  only = only_text c.args.self.now c.put-text.ensures.short;
+  only = only_text c.args.self.now c.put_text.ensures.short;
 }
