@@ -16,7 +16,7 @@ use Rattle.compare.specs.Fault.{layer_of}
 use Rattle.compare.specs.Report.{head_line, entry_line, shown_entries, report, reported}
 
 -- the word of a layer is short
-table_layer_short : (f : TableFault) → length (table.layer-of f) ≤ 8
+table_layer_short : (f : TableFault) → length (table.layer_of f) ≤ 8
 table_layer_short (Text f) = omega arith
 table_layer_short (EmptyGuard k) = omega arith
 table_layer_short (PastTimeout k) = omega arith
