@@ -4,6 +4,7 @@ use crate::books::*;
 use compare::cell::{BLANK, Cell};
 use compare::fault::CompareFault;
 use compare::judge::judge;
+use std::test::Fail;
 use table::word::Entry;
 use text::put::put;
 
@@ -98,7 +99,7 @@ fn report_just_fits(rt: HostRuntime) {
             b"different 4 8 4 2\n0 0\n2 0\n",
         )
     );
-    assert!(rt; &longer[26..] == b"..");
+    assert!(rt; &longer[26..] == b"..".as_slice());
 }
 
 #[test]
@@ -133,7 +134,7 @@ fn longest_input(rt: HostRuntime) -> Result<(), Fail> {
     let mut report = [0; 64];
     match judge(&input, &mut [BLANK; 4], &mut [MARK; 4], &mut report) {
         Ok(filled) => {
-            assert!(rt; &report[0..filled] == b"alike 2 2\n");
+            assert!(rt; &report[0..filled] == b"alike 2 2\n".as_slice());
             Ok(())
         },
         Err(_) => Err(Fail::new("refused")),
@@ -147,7 +148,7 @@ fn one_byte_too_long(rt: HostRuntime) -> Result<(), Fail> {
     let mut report = [0; 64];
     let mut word = [MARK; 4];
     match judge(&input, &mut [BLANK; 4], &mut word, &mut report) {
-        Ok(filled) => assert!(rt; &report[0..filled] == b"fault 1 text 10 16384\n"),
+        Ok(filled) => assert!(rt; &report[0..filled] == b"fault 1 text 10 16384\n".as_slice()),
         Err(_) => return Err(Fail::new("refused")),
     }
     assert!(rt; untouched(&word));

@@ -4,6 +4,7 @@ use crate::books::*;
 use compare::cell::BLANK;
 use compare::compare::{Verdict, compare};
 use std::process::Abort;
+use std::test::Fail;
 use table::allowance::Allowance;
 use table::book::Book;
 use table::fault::TableFault;

@@ -4,6 +4,7 @@ use crate::books::*;
 use crate::damaged::*;
 use crate::machines::book;
 use std::process::Abort;
+use std::test::Fail;
 use table::book::Book;
 use table::fault::{Place, TableFault};
 use text::digits::Digits;

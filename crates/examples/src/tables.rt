@@ -1,6 +1,7 @@
 //! Tables that are refused, those just inside the limits, and comparisons that are refused.
 
 use crate::books::*;
+use std::test::Fail;
 
 #[test]
 fn longest_timeout(rt: HostRuntime) -> Result<(), Fail> {

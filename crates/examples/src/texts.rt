@@ -1,6 +1,7 @@
 //! Texts that are refused, each with its place.
 
 use crate::books::*;
+use std::test::Fail;
 
 #[test]
 fn malformed(rt: HostRuntime) -> Result<(), Fail> {

@@ -1,6 +1,7 @@
 //! Redrafts that change nothing, and redrafts that change something.
 
 use crate::books::*;
+use std::test::Fail;
 
 const SPLIT: &str = " inputs 1 outputs 1 states 1 stay rows 2 0 0 [0,3] 0 0 0 0 (3,inf) 0 0";
 

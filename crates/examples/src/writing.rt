@@ -4,6 +4,7 @@ use crate::books::*;
 use crate::machines::book;
 use crate::reading::*;
 use std::process::Abort;
+use std::test::Fail;
 use table::book::Book;
 use text::put::put;
 
