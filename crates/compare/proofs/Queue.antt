@@ -4,7 +4,7 @@ use Rattle.std.proofs.lemmas.Bool.{cases_eq, eq-eqb, ne_eqb, cond-true, cond-fal
 use Rattle.std.proofs.lemmas.Nat.{div-mul-add, mod-mul-add}
 use Rattle.text.specs.Limits.{max_inputs}
 use Rattle.table.specs.Meaning.{Meaning, output}
-use Rattle.table.specs.Steps.{Fit, after, leads}
+use Rattle.table.specs.Steps.{Fit, after}
 use Rattle.table.specs.declared.word.Step.{Step}
 use Rattle.table.specs.declared.word.Step.TheVariants.{Tick, Take}
 use Rattle.table.proofs.Strings.{over_append, leads_append, length_push}

@@ -9,7 +9,6 @@ use Rattle.table.specs.declared.fault.TableFault.{TableFault}
 use Rattle.table.specs.declared.fault.TableFault.TheVariants.{Text}
 use Rattle.table.specs.declared.word.Entry.{Entry}
 use Rattle.table.specs.BookMachine.{book_meaning}
-use Rattle.table.specs.Meaning.{Meaning}
 use Rattle.table.specs.Read.{book_reading}
 use Rattle.compare.specs.declared.compare.Verdict.{Verdict}
 use Rattle.compare.specs.declared.compare.Verdict.TheVariants as verdict

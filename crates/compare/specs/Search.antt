@@ -1,5 +1,5 @@
 -- The breadth-first search over pairs of states: what the cells hold, and what the search keeps true of them.
-use Rattle.std.specs.Prelude.{◌≡◌, ℕ, ◌+◌, ◌*◌, ◌<◌, ◌≤◌, Bool, ◌≢◌, ◌⊎◌, List, [], ◌∷◌, ◌++◌, length, set, count_by, ◌==◌, slice_index_or, slice_set}
+use Rattle.std.specs.Prelude.{◌≡◌, ℕ, ◌+◌, ◌*◌, ◌<◌, ◌≤◌, Bool, ◌≢◌, ◌⊎◌, List, [], ◌∷◌, ◌++◌, length, count_by, ◌==◌, slice_index_or, slice_set}
 use Rattle.text.specs.Limits.{max_inputs}
 use Rattle.table.specs.Limits.{max_machine_states}
 use Rattle.table.specs.Meaning.{Meaning, output}

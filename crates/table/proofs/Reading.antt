@@ -6,16 +6,14 @@ use Rattle.text.specs.declared.fault.TextFault.{TextFault}
 use Rattle.text.specs.Draft.{Ranged}
 use Rattle.text.specs.Grammar.{reading}
 use Rattle.text.specs.Limits.{max_bytes}
-use Rattle.text.specs.Parts.{Writes}
 use Rattle.text.specs.Write.{canonical}
 use Rattle.text.proofs.Exactly.{reads_exactly as drafts_exactly, reads_back as drafts_back}
 use Rattle.text.proofs.Refusals.{refuses_exactly as drafts_refused}
 use Rattle.table.specs.declared.book.Book.{Book}
 use Rattle.table.specs.declared.fault.TableFault.{TableFault}
 use Rattle.table.specs.declared.fault.TableFault.TheVariants.{Text}
-use Rattle.table.specs.Read.{unless_fault, sound_draft, book_reading, ReadsAs, WritesBook, ReadsExactly, RefusesText, Checked, ChecksTable, ReadsBack, OnlyText}
+use Rattle.table.specs.Read.{unless_fault, sound_draft, book_reading, ReadsAs, WritesBook, ReadsExactly, RefusesText, ChecksTable, ReadsBack, OnlyText}
 use Rattle.table.specs.Sound.{draft_fault}
-use Rattle.table.specs.Soundness.{SoundTable, FirstFault}
 use Rattle.table.specs.Books.{book_sound}
 use Rattle.table.proofs.Checks.{checks_right, sound_table}
 use Rattle.table.proofs.SameBooks.{same_book}

@@ -1,9 +1,8 @@
 -- How the ticks of a longer wait come from those of a shorter, and the steps of a word from those of its entries.
-use Rattle.std.proofs.Common.{◌≡◌, ℕ, zero, suc, ◌+◌, ◌*◌, ◌/◌, ◌%◌, ◌<◌, ◌≤◌, cond, eqb, List, [], ◌∷◌, length, get_or, take, refl, ap, ◌∙◌, subst, ⊎_elim, add-zero, mul-zero, add-one, arith}
+use Rattle.std.proofs.Common.{◌≡◌, ℕ, zero, suc, ◌+◌, ◌*◌, ◌/◌, ◌%◌, ◌<◌, ◌≤◌, cond, eqb, refl, ap, ◌∙◌, subst, ⊎_elim, add-zero, mul-zero, add-one, arith}
 use native.Mathlib.Nat.{add-mul-div_left, add-mul-mod_self_left, div-add-mod}
 use Rattle.std.proofs.lemmas.Bool.{cases_eq, eq-eqb, ne_eqb}
-use Rattle.table.specs.Word.{ticks, ticked, steps}
-use Rattle.table.specs.declared.word.Entry.{Entry}
+use Rattle.table.specs.Word.{ticks, ticked}
 
 pub ticked_more : (t : ℕ → ℕ) (n s : ℕ) → ticked t (n + 1) s ≡ t (ticked t n s)
 ticked_more t n s = rw add-one refl

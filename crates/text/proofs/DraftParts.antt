@@ -1,19 +1,17 @@
 -- The parts of a draft, and that the grammar reads a draft whose numbers lie in their ranges from exactly these.
-use Rattle.std.proofs.Common.{◌≡◌, ℕ, zero, suc, ◌+◌, ◌-◌, ◌<◌, ◌≤◌, Bool, true, false, cond, List, [], ◌∷◌, ◌++◌, length, get_or, take, drop, replicate, codes, sym, refl, ap, ◌∙◌, subst, ⊎_elim, append-nil, arith, length-append, length-drop, take-append-drop, length-take}
+use Rattle.std.proofs.Common.{◌≡◌, ℕ, zero, suc, ◌+◌, ◌-◌, ◌<◌, ◌≤◌, List, [], ◌∷◌, ◌++◌, length, get_or, take, drop, replicate, codes, sym, ap, ◌∙◌, append-nil, arith, length-drop, take-append-drop, length-take}
 use lib.ListN.{length-replicate, get_or-replicate}
 use Rattle.std.proofs.lemmas.List.{take_at, get_or-drop, same_lists, get_or_default}
 use Rattle.std.specs.List.{flat_map, AllByRecursion}
 use Rattle.text.specs.declared.draft.Draft.{Draft}
 use Rattle.text.specs.declared.draft.Row.{Row}
 use Rattle.text.specs.declared.draft.State.{State}
-use Rattle.text.specs.declared.draft.State.TheVariants.{Stay, Hold}
+use Rattle.text.specs.declared.draft.State.TheVariants.{Stay}
 use Rattle.text.specs.Draft.{no_row, StateRanged, RowRanged, Ranged}
 use Rattle.text.specs.Grammar.{◌>>=◌, done, section, many, state, row, padded, draft_of, book}
 use Rattle.text.specs.Limits.{max_inputs, max_outputs, max_states, max_rows}
-use Rattle.text.specs.Read.{Filled}
-use Rattle.text.specs.Token.{Part, got}
-use Rattle.text.proofs.Drafts.{Parts, made_of, ranged}
-use Rattle.text.proofs.Follows.{Follows}
+use Rattle.text.specs.Token.{Part}
+use Rattle.text.proofs.Drafts.{made_of, ranged}
 use Rattle.text.proofs.Readers.{Spelt, Several, spelt_done, spelt_then, spelt_given, spelt_as, spelt_many}
 use Rattle.text.proofs.Spelling.{Range, head_parts, state_parts, row_parts, spelt_section, spelt_state, spelt_row}
 

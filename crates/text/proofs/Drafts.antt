@@ -1,20 +1,19 @@
 -- The draft that the section readers put together: what it reads as, and that its numbers lie in their ranges.
-use Rattle.std.proofs.Common.{◌≡◌, ℕ, ◌+◌, ◌-◌, ◌<◌, ◌≤◌, List, [], ◌∷◌, ◌++◌, length, get_or, take, replicate, Ok, Err, codes, Result, sym, refl, ap, ◌∙◌, subst, ⊎_elim, arith, length-append, length-take}
+use Rattle.std.proofs.Common.{◌≡◌, ℕ, ◌+◌, ◌-◌, ◌<◌, ◌≤◌, List, [], length, get_or, take, replicate, Ok, codes, sym, refl, ap, ◌∙◌, subst, ⊎_elim, arith, length-append, length-take}
 use lib.ListN.{get_or-replicate, length-replicate}
 use Rattle.std.proofs.lemmas.List.{get_or-append_right, get_or_past}
 use Rattle.std.proofs.lemmas.Bool.{cases_lt}
 use Rattle.text.specs.declared.draft.Draft.{Draft}
 use Rattle.text.specs.declared.draft.Row.{Row}
 use Rattle.text.specs.declared.draft.State.{State}
-use Rattle.text.specs.declared.draft.State.TheVariants.{Stay, Hold}
-use Rattle.text.specs.declared.fault.TextFault.{TextFault}
+use Rattle.text.specs.declared.draft.State.TheVariants.{Stay}
 use Rattle.text.specs.declared.lexer.Lexer.{Lexer}
 use Rattle.text.specs.Draft.{no_row, StateRanged, RowRanged, Ranged}
-use Rattle.text.specs.Grammar.{on, ◌>>=◌, done, section, many, state, row, padded, draft_of, book}
-use Rattle.text.specs.Lexer.{whole, left, Refuses, fault_at, byte_of}
+use Rattle.text.specs.Grammar.{on, ◌>>=◌, done, section, many, state, row, draft_of, book}
+use Rattle.text.specs.Lexer.{whole}
 use Rattle.text.specs.Limits.{max_inputs, max_outputs, max_states, max_rows}
-use Rattle.text.specs.Read.{Reads, Says, Filled}
-use Rattle.text.specs.Token.{Got, got, no, Reader}
+use Rattle.text.specs.Read.{Reads, Filled}
+use Rattle.text.specs.Token.{Got, Reader}
 
 -- one thing read, then the next
 reads_then : {A B : Type 0} (d : Reader A) (k : A → Reader B) {l m p : Lexer} {a : A} {b : B} → Reads d l m (Ok a) → Reads (k a) m p (Ok b) → Reads (d >>= k) l p (Ok b)

@@ -1,5 +1,5 @@
 -- A text reads as a draft exactly where it has the parts of the draft's canonical text, and the canonical text reads back.
-use Rattle.std.proofs.Common.{◌≡◌, ℕ, ◌+◌, ◌-◌, ◌<◌, ◌≤◌, Bool, true, false, cond, ltb, List, [], ◌∷◌, ◌++◌, length, drop, Ok, Err, Result, sym, refl, ap, ◌∙◌, subst, append-nil, arith, length-append, length-drop}
+use Rattle.std.proofs.Common.{◌≡◌, ℕ, ◌+◌, ◌-◌, Bool, true, false, cond, ltb, List, [], ◌∷◌, ◌++◌, length, drop, Ok, Err, Result, sym, refl, ap, ◌∙◌, subst, append-nil, arith, length-append, length-drop}
 use Rattle.std.proofs.lemmas.List.{drop-drop}
 use Rattle.std.proofs.lemmas.Bool.{le-ltb, ltb-false}
 use Rattle.text.specs.declared.draft.Draft.{Draft}
@@ -8,7 +8,7 @@ use Rattle.text.specs.declared.fault.TextFault.TheVariants.{TooLong}
 use Rattle.text.specs.Draft.{Ranged}
 use Rattle.text.specs.Grammar.{book, placed, reading_from, reading}
 use Rattle.text.specs.Limits.{max_bytes}
-use Rattle.text.specs.Parts.{Begins, HasParts, PartsOf, Writes, ReadsExactly, ReadsBack}
+use Rattle.text.specs.Parts.{Begins, HasParts, Writes, ReadsExactly, ReadsBack}
 use Rattle.text.specs.Token.{Part, Got, got, no}
 use Rattle.text.specs.Write.{canonical}
 use Rattle.text.proofs.Canonical.{canonical_begins}

@@ -6,10 +6,10 @@ use Rattle.std.proofs.lemmas.List.{take_more_set, drop-set-lt, drop-drop, drop-r
 use Rattle.std.proofs.lemmas.Bool.{cases_eq}
 use Rattle.text.specs.declared.fault.TextFault.{TextFault}
 use Rattle.text.specs.declared.lexer.Lexer.{Lexer}
-use Rattle.text.specs.Grammar.{many, padded}
+use Rattle.text.specs.Grammar.{many}
 use Rattle.text.specs.Lexer.{whole, left, Refuses, fault_at}
 use Rattle.text.specs.Read.{Reads, shown, Filled}
-use Rattle.text.specs.Token.{Got, got, no, Reader}
+use Rattle.text.specs.Token.{got, no, Reader}
 
 module _ {A : Type 0} (d : Reader A) (n i : ℕ) (h : i < n) where
   -- a turn of a loop that reads n things

@@ -1,6 +1,5 @@
 -- What the lexer takes from bytes is the part that they begin with.
-use Rattle.std.proofs.Common.{◌≡◌, ℕ, suc, ◌+◌, ◌-◌, ◌*◌, ◌/◌, ◌%◌, ◌^◌, ◌<◌, ◌≤◌, Bool, true, false, cond, eqb, leb, List, [], ◌∷◌, ◌++◌, length, take, drop, Some, None, decimal, Option, sym, refl, ap, ◌∙◌, subst, ⊎_elim, append_assoc, arith, take-append-drop}
-use native.Mathlib.Nat.{div-div-eq-div-mul}
+use Rattle.std.proofs.Common.{◌≡◌, ℕ, suc, ◌+◌, ◌-◌, ◌*◌, ◌/◌, ◌%◌, ◌<◌, ◌≤◌, Bool, true, false, cond, eqb, leb, List, [], ◌∷◌, ◌++◌, length, take, drop, Some, None, decimal, Option, sym, refl, ap, ◌∙◌, subst, ⊎_elim, arith, take-append-drop}
 use Rattle.std.proofs.lemmas.Fmt.{decimal_digit, decimal_step}
 use Rattle.std.proofs.lemmas.List.{take_at, drop_at}
 use Rattle.std.proofs.lemmas.Bool.{cond_both, and_parts, and_from, and_left, or_cases, or_from, eqb-true, ne_eqb, eqb-false, leb-true, le-leb, lt-leb, cases_Bool, cases_lt}
@@ -10,7 +9,7 @@ use Rattle.text.specs.declared.token.Kind.{Kind}
 use Rattle.text.specs.declared.token.Kind.TheVariants.{Blank, Letter, Digit}
 use Rattle.text.specs.Limits.{number_limit}
 use Rattle.text.specs.Parts.{All, Other, spelling, Proper, Stops, Next}
-use Rattle.text.specs.Token.{is_of, is_mark, run, numeral, numbered, Part, word, number, mark, end, Got, got, no, skip, part}
+use Rattle.text.specs.Token.{is_of, is_mark, run, numeral, numbered, Part, word, number, mark, end, got, no, skip, part}
 use Rattle.text.proofs.Tokens.{part_word, part_number, part_mark}
 
 -- runs of a kind

@@ -1,7 +1,6 @@
 -- Runs of bytes, one byte on.
 use Rattle.std.proofs.Common.{◌≡◌, ℕ, suc, ◌+◌, ◌<◌, ◌≤◌, true, false, List, length, get_or, drop, ◌∙◌}
 use Rattle.std.proofs.lemmas.List.{at_drop_more, at_drop_all}
-use Rattle.std.proofs.lemmas.Bool.{cond-true, cond-false}
 use Rattle.text.specs.declared.token.Kind.{Kind}
 use Rattle.text.specs.Token.{is_of, run}
 

@@ -1,9 +1,9 @@
 -- What the lexer's calls say of the part at a place.
-use Rattle.std.proofs.Common.{◌≡◌, ℕ, suc, ◌+◌, ◌-◌, ◌<◌, ◌≤◌, Bool, true, false, cond, List, [], ◌∷◌, length, get_or, take, drop, Some, None, Option, sym, refl, ap, ◌∙◌, arith, length-drop}
+use Rattle.std.proofs.Common.{◌≡◌, ℕ, ◌+◌, ◌-◌, ◌<◌, ◌≤◌, true, false, cond, List, [], ◌∷◌, length, get_or, take, drop, Some, None, Option, sym, ap, ◌∙◌, arith, length-drop}
 use Rattle.std.proofs.lemmas.List.{drop-drop, drop_more, drop_all}
 use Rattle.text.specs.declared.token.Kind.{Kind}
 use Rattle.text.specs.declared.token.Kind.TheVariants.{Blank, Letter, Digit}
-use Rattle.text.specs.Token.{is_of, is_mark, run, numeral, Part, word, number, mark, end, Got, got, no, numbered, skip, part, first_part}
+use Rattle.text.specs.Token.{is_of, is_mark, run, numeral, word, number, mark, end, got, no, numbered, skip, part, first_part}
 use Rattle.text.specs.declared.fault.TextFault.TheVariants.{Malformed}
 
 -- past a run that ends at e

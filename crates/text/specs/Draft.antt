@@ -1,7 +1,6 @@
 -- The rows and states of a draft by their numbers, and the ranges of its numbers.
 use Rattle.std.specs.Prelude.{◌≡◌, ℕ, ◌<◌, ◌≤◌, length, Some, None, Option, slice_index_or}
-use Rattle.text.specs.declared.draft.End.{End}
-use Rattle.text.specs.declared.draft.End.TheVariants.{Shut, Open}
+use Rattle.text.specs.declared.draft.End.TheVariants.{Shut}
 use Rattle.text.specs.declared.draft.High.{High}
 use Rattle.text.specs.declared.draft.High.TheVariants.{At, Inf}
 use Rattle.text.specs.declared.draft.Guard.{Guard}

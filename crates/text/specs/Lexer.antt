@@ -6,7 +6,7 @@ use Rattle.text.specs.declared.lexer.Lexer.{Lexer}
 use Rattle.text.specs.declared.token.Token.{Token}
 use Rattle.text.specs.declared.token.Token.TheVariants.{Word, Number, Mark, End}
 use Rattle.text.specs.Limits.{max_bytes}
-use Rattle.text.specs.Token.{Part, word, number, mark, end, Got, got, no, Reader, skip, part}
+use Rattle.text.specs.Token.{Part, word, number, mark, end, Got, got, no, skip, part}
 
 abbrev pub part_of : Token → Part
 part_of (Word w) = word w.now

@@ -4,7 +4,7 @@ use Rattle.text.specs.declared.fault.TextFault.{TextFault}
 use Rattle.text.specs.declared.lexer.Lexer.{Lexer}
 use Rattle.text.specs.Grammar.{padded}
 use Rattle.text.specs.Lexer.{whole, left, Refuses}
-use Rattle.text.specs.Token.{Got, got, Reader}
+use Rattle.text.specs.Token.{got, Reader}
 
 -- a result is what d defines, and the lexer goes from l to m
 abbrev pub Says : {A : Type 0} → Reader A → Lexer → Lexer → Result A TextFault → Type 0

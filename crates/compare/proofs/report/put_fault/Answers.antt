@@ -1,6 +1,5 @@
-use Rattle.std.proofs.Common.{◌≤◌, length, ap, ◌∙◌, arith}
+use Rattle.std.proofs.Common.{ap, ◌∙◌, arith}
 use Rattle.text.proofs.Puts.{puts_then, puts_as}
-use Rattle.compare.specs.Fault.{layer_of}
 use Rattle.compare.specs.Report.{field, place_fields}
 use Rattle.compare.proofs.Reports.{layer_short}
 use Rattle.compare.proofs.report.put_fault.Goals as goal

@@ -1,4 +1,4 @@
-use Rattle.std.proofs.Common.{◌≡◌, ◌≤◌, length, decimal, ◌∙◌, arith}
+use Rattle.std.proofs.Common.{◌≡◌, decimal, ◌∙◌, arith}
 use Rattle.text.proofs.Puts.{puts_as, most_digits}
 use Rattle.compare.proofs.report.put_number.Goals as goal
 

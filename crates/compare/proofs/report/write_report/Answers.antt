@@ -1,7 +1,7 @@
-use Rattle.std.proofs.Common.{◌≡◌, ◌+◌, ◌-◌, ◌≤◌, length, take, sym, ap, ◌∙◌, arith}
+use Rattle.std.proofs.Common.{◌≡◌, ◌-◌, ◌≤◌, length, take, ap, ◌∙◌, arith}
 use Rattle.std.specs.List.{flat_map}
 use Rattle.text.proofs.Puts.{puts_then, puts_as}
-use Rattle.compare.specs.Report.{head_line, entry_line, shown_entries, report}
+use Rattle.compare.specs.Report.{head_line, entry_line, report}
 use Rattle.compare.proofs.Reports.{reported_all, reported_none, report_length, report_is}
 use Rattle.compare.proofs.report.write_report.Goals as goal
 

@@ -1,5 +1,5 @@
-use Rattle.std.proofs.Common.{arith, rules}
-use Rattle.text.proofs.Puts.{puts_then, puts_number}
+use Rattle.std.proofs.Common.{arith}
+use Rattle.text.proofs.Puts.{puts_then}
 use Rattle.text.proofs.write.put_head.Goals as goal
 
 pub returns : goal.returns

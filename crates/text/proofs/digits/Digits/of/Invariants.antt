@@ -1,4 +1,3 @@
-use Rattle.std.proofs.Common.{◌≡◌, ◌^◌, ◌<◌, ◌≤◌, ◌++◌, length, drop, decimal}
 use Rattle.text.proofs.Decimal.{Writing}
 use Rattle.text.proofs.digits.Digits.of.Given as goal
 

@@ -1,6 +1,5 @@
-use Rattle.std.proofs.Common.{get_or, drop, sym, refl, ap, ◌∙◌, arith}
+use Rattle.std.proofs.Common.{sym, refl, ◌∙◌, arith}
 use Rattle.std.proofs.lemmas.Bool.{cond-true, cond-false}
-use Rattle.text.specs.Token.{numbered, got, no, mark, part}
 use Rattle.text.proofs.Tokens.{skipped, at_end, at_word, at_number, at_mark, number_some, number_none}
 use Rattle.text.proofs.lexer.Lexer.next.Goals as goal
 
