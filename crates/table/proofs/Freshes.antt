@@ -7,7 +7,7 @@ use Rattle.text.specs.declared.draft.Row.{Row}
 use Rattle.text.specs.declared.draft.State.{State}
 use Rattle.text.specs.declared.draft.State.TheVariants.{Stay}
 use Rattle.text.specs.Limits.{max_states, max_rows, max_days}
-use Rattle.text.specs.Draft.{no_row, row_at, state_at, timeout_of, target_of, GuardRanged, Ranged}
+use Rattle.text.specs.Draft.{no_row, row_at, state_at, timeout_of, target_of, GuardRanged, Ranged, Sized}
 use Rattle.table.specs.Fresh.{fresh_row, fresh_draft}
 use Rattle.table.specs.Sound.{Sound}
 use Rattle.table.proofs.Soundness.{faultless_sound}
@@ -31,10 +31,12 @@ fresh_ranged = record {
   states = λ s l. subst (λ (h : State). (1 ≤ timeout_of h) × (timeout_of h ≤ max_days) × (target_of h < 1)) (sym (state_is s)) (omega arith, omega arith, omega arith);
   named = λ k l. subst (λ (w : Row). (w.state < 1) × (w.input < 1) × (w.output < 1) × (w.next < 1)) (sym (row_is k l)) (omega arith, omega arith, omega arith, omega arith);
   guards = λ k l. subst (λ (w : Row). GuardRanged w.guard) (sym (row_is k l)) (omega arith, omega arith);
-  sized = (length-replicate max_states Stay, length-set (replicate max_rows no_row) 0 fresh_row ∙ length-replicate max_rows no_row);
   states_padded = λ s l. state_is s;
   rows_padded = row_past;
 }
+
+pub fresh_sized : Sized fresh_draft
+fresh_sized = (length-replicate max_states Stay, length-set (replicate max_rows no_row) 0 fresh_row ∙ length-replicate max_rows no_row)
 
 pub fresh_sound : Sound fresh_draft
 fresh_sound = faultless_sound fresh_draft fresh_ranged refl

@@ -14,7 +14,7 @@ use Rattle.table.specs.declared.fault.TableFault.{TableFault}
 use Rattle.table.specs.declared.fault.TableFault.TheVariants.{Text}
 use Rattle.table.specs.Read.{unless_fault, sound_draft, book_reading, ReadsAs, WritesBook, ReadsExactly, RefusesText, ChecksTable, ReadsBack, OnlyText}
 use Rattle.table.specs.Sound.{draft_fault}
-use Rattle.table.specs.Books.{book_sound}
+use Rattle.table.specs.Books.{book_sound, book_formed}
 use Rattle.table.proofs.Checks.{checks_right, sound_table}
 use Rattle.table.proofs.SameBooks.{same_book}
 
@@ -80,7 +80,7 @@ module _ (t : List ℕ) (from : ℕ) (before after : Book) (r : Result ℕ Table
 
   writes_read : (b : Book) (to : ℕ) → WritesBook t from b to → (r ≡ Ok to) × (after ≡ b)
   writes_read b to w =
-      let e = (drafts_exactly t from b.draft to).1 (record { few = w.few; ranged = (book_sound b).ranged; parts = w.parts }) in
+      let e = (drafts_exactly t from b.draft to).1 (record { few = w.few; formed = book_formed b; parts = w.parts }) in
       let k = taken_as (book_reading t from) before after r b.draft to a (reading_of_book t from b to e) in
       (k.0, same_book after b k.1)
 
@@ -91,7 +91,7 @@ module _ (t : List ℕ) (from : ℕ) (before after : Book) (r : Result ℕ Table
   checks_table d to w =
       let e = book_of_draft t from (d, to) ((drafts_exactly t from d to).1 w) in
       let b = subst (λ (x : Result (Draft × ℕ) TableFault). ReadsAs x before after r) e a in
-      let check = checks_right d w.ranged in
+      let check = checks_right d w.formed.ranged in
       record {
         taken = Iff.trans (none_taken before after r (d, to) (draft_fault d) b) check.sound;
         refused = λ f. Iff.trans (some_refused before after r (d, to) (draft_fault d) f b) (check.first f);
@@ -120,10 +120,10 @@ module _ (t : List ℕ) (from : ℕ) (before after : Book) (r : Result ℕ Table
   refuses_text f =
       let answer = refused_as (book_reading t from) before after r (Text f) a in
       let law = drafts_refused t from f in
-      (λ e. law.0 (text_refused (reading t from) f (λ p is. ((drafts_exactly t from p.0 p.1).0 is).ranged) (answer.0 e)), λ h. answer.1 (ap sound_draft (law.1 h)))
+      (λ e. law.0 (text_refused (reading t from) f (λ p is. ((drafts_exactly t from p.0 p.1).0 is).formed.ranged) (answer.0 e)), λ h. answer.1 (ap sound_draft (law.1 h)))
 
 pub reads_back : (b : Book) → ReadsBack b
-reads_back b behind few = reading_of_book (canonical b.draft ++ behind) 0 b (length (canonical b.draft) - 1) (drafts_back b.draft (book_sound b).ranged behind few)
+reads_back b behind few = reading_of_book (canonical b.draft ++ behind) 0 b (length (canonical b.draft) - 1) (drafts_back b.draft (book_formed b) behind few)
 
 -- a book is known by its text
 pub only_text : (b : Book) → length (canonical b.draft) ≤ max_bytes → OnlyText b
@@ -132,6 +132,6 @@ only_text b few other same =
     λ c e.
     let alone : canonical c.draft ++ [] ≡ canonical b.draft = append-nil (canonical c.draft) ∙ e in
     let short : length (canonical c.draft ++ []) ≤ max_bytes = subst (λ (t : List ℕ). length t ≤ max_bytes) (sym alone) few in
-    ap (λ t. reading t 0) (sym alone) ∙ drafts_back c.draft (book_sound c).ranged [] short ∙ ap (λ (t : List ℕ). Ok (c.draft, length t - 1)) e in
+    ap (λ t. reading t 0) (sym alone) ∙ drafts_back c.draft (book_formed c) [] short ∙ ap (λ (t : List ℕ). Ok (c.draft, length t - 1)) e in
     let both : ◌≡◌ {A = Draft × ℕ} (other.draft, length (canonical b.draft) - 1) (b.draft, length (canonical b.draft) - 1) = ok_same _ _ (sym (whole other same) ∙ whole b refl) in
     same_book other b (ap (λ (p : Draft × ℕ). p.0) both)

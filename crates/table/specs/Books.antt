@@ -1,4 +1,5 @@
--- Every book is sound.
+-- Every book is sound, and its draft is formed.
+use Rattle.text.specs.Draft.{Formed}
 use Rattle.table.specs.declared.book.Book.{Book}
 use Rattle.table.specs.Sound.{Sound}
 use Rattle.table.specs.Paddings as paddings
@@ -11,7 +12,6 @@ book_sound b = record {
     states = b.states_ranged;
     named = b.rows_named;
     guards = b.guards_ranged;
-    sized = b.sized;
     states_padded = paddings.states_padded b.draft b.states_padded;
     rows_padded = paddings.rows_padded b.draft b.rows_padded;
   };
@@ -19,3 +19,6 @@ book_sound b = record {
   none_past = b.none_past;
   one_row = b.one_row;
 }
+
+pub book_formed : (b : Book) → Formed b.draft
+book_formed b = record { ranged = (book_sound b).ranged; sized = b.sized }

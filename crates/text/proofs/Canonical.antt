@@ -11,7 +11,7 @@ use Rattle.text.specs.declared.draft.Row.{Row}
 use Rattle.text.specs.declared.draft.State.{State}
 use Rattle.text.specs.declared.draft.State.TheVariants.{Stay, Hold}
 use Rattle.text.specs.declared.token.Kind.TheVariants.{Blank, Letter, Digit}
-use Rattle.text.specs.Draft.{no_row, StateRanged, GuardRanged, RowRanged, Ranged}
+use Rattle.text.specs.Draft.{no_row, StateRanged, GuardRanged, RowRanged, Formed}
 use Rattle.text.specs.Limits.{number_limit, max_inputs, max_outputs, max_states, max_rows}
 use Rattle.text.specs.Parts.{All, spelling, Proper, Stops, Next, Begins}
 use Rattle.text.specs.Token.{Part, word, number, mark, is_of, is_mark}
@@ -128,8 +128,9 @@ unfolding canonical
 canonical_text d more =
     sections_text (head_line (codes "inputs") d.inputs) (head_line (codes "outputs") d.outputs) (head_line (codes "states") d.states.count) (flat_map state_line (states_of d)) (head_line (codes "rows") d.rows.count) (flat_map row_line (rows_of d)) more
 
-pub canonical_begins : (d : Draft) (more : List ℕ) → Ranged d → Begins (draft_parts d) (canonical d ++ more) (10 ∷ more)
-canonical_begins d more r =
+pub canonical_begins : (d : Draft) (more : List ℕ) → Formed d → Begins (draft_parts d) (canonical d ++ more) (10 ∷ more)
+canonical_begins d more f =
+    let r = f.ranged in
     let i : ℕ = d.inputs in
     let o : ℕ = d.outputs in
     let n : ℕ = d.states.count in
@@ -138,8 +139,8 @@ canonical_begins d more r =
     let few_outputs : o ≤ max_outputs = r.inputs.3 in
     let few_states : n ≤ max_states = r.counts.1 in
     let few_rows : m ≤ max_rows = r.counts.3 in
-    let all_states : length d.states.all ≡ max_states = r.sized.0 in
-    let all_rows : length d.rows.all ≡ max_rows = r.sized.1 in
+    let all_states : length d.states.all ≡ max_states = f.sized.0 in
+    let all_rows : length d.rows.all ≡ max_rows = f.sized.1 in
     let row_section : List Part = head_parts (codes "rows") m ++ flat_map row_parts (rows_of d) in
     let state_section : List Part = head_parts (codes "states") n ++ (flat_map state_parts (states_of d) ++ row_section) in
     let rows : List ℕ = flat_map row_line (rows_of d) ++ more in

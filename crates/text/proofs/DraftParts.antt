@@ -1,4 +1,4 @@
--- The parts of a draft, and that the grammar reads a draft whose numbers lie in their ranges from exactly these.
+-- The parts of a draft, and that the grammar reads a formed draft from exactly these.
 use Rattle.std.proofs.Common.{◌≡◌, ℕ, zero, suc, ◌+◌, ◌-◌, ◌<◌, ◌≤◌, List, [], ◌∷◌, ◌++◌, length, get_or, take, drop, replicate, codes, sym, ap, ◌∙◌, append-nil, arith, length-drop, take-append-drop, length-take}
 use lib.ListN.{length-replicate, get_or-replicate}
 use Rattle.std.proofs.lemmas.List.{take_at, get_or-drop, same_lists, get_or_default}
@@ -7,11 +7,11 @@ use Rattle.text.specs.declared.draft.Draft.{Draft}
 use Rattle.text.specs.declared.draft.Row.{Row}
 use Rattle.text.specs.declared.draft.State.{State}
 use Rattle.text.specs.declared.draft.State.TheVariants.{Stay}
-use Rattle.text.specs.Draft.{no_row, StateRanged, RowRanged, Ranged}
+use Rattle.text.specs.Draft.{no_row, StateRanged, RowRanged, Formed}
 use Rattle.text.specs.Grammar.{◌>>=◌, done, section, many, state, row, padded, draft_of, book}
 use Rattle.text.specs.Limits.{max_inputs, max_outputs, max_states, max_rows}
 use Rattle.text.specs.Token.{Part}
-use Rattle.text.proofs.Drafts.{made_of, ranged}
+use Rattle.text.proofs.Drafts.{made_of, formed}
 use Rattle.text.proofs.Readers.{Spelt, Several, spelt_done, spelt_then, spelt_given, spelt_as, spelt_many}
 use Rattle.text.proofs.Spelling.{Range, head_parts, state_parts, row_parts, spelt_section, spelt_state, spelt_row}
 
@@ -111,16 +111,17 @@ spelt_book =
     (spelt_section (codes "states") (max_states + 1) (omega arith))
     (λ n h. spelt_states i o n a.1.0 b.1.0 h.1.0)))
 
--- what the readers ask of a draft is that its numbers lie in their ranges
+-- what the readers ask of a draft is that it is formed
 
-ranged_fits : (d : Draft) → Ranged d → BookFits d
-ranged_fits d r =
+formed_fits : (d : Draft) → Formed d → BookFits d
+formed_fits d w =
+    let r = w.ranged in
     let n : ℕ = d.states.count in
     let m : ℕ = d.rows.count in
     let few : n ≤ max_states = r.counts.1 in
     let short : m ≤ max_rows = r.counts.3 in
-    let all_states : length d.states.all ≡ max_states = r.sized.0 in
-    let all_rows : length d.rows.all ≡ max_rows = r.sized.1 in
+    let all_states : length d.states.all ≡ max_states = w.sized.0 in
+    let all_rows : length d.rows.all ≡ max_rows = w.sized.1 in
     let states = front_padded Stay max_states n d.states.all all_states few r.states_padded in
     let rows = front_padded no_row max_rows m d.rows.all all_rows short r.rows_padded in (
       (tt, (r.inputs.0, omega (arith, r.inputs.1))),
@@ -142,11 +143,11 @@ ranged_fits d r =
       ),
     )
 
-fits_ranged : (d : Draft) → BookFits d → Ranged d
-fits_ranged d f =
+fits_formed : (d : Draft) → BookFits d → Formed d
+fits_formed d f =
     let all = f.1.1.1 in
     let lines = all.1.1 in
-    ranged {i = d.inputs} {o = d.outputs} {n = d.states.count} {m = d.rows.count} {kinds = d.states.all} {lines = d.rows.all} (record {
+    formed {i = d.inputs} {o = d.outputs} {n = d.states.count} {m = d.rows.count} {kinds = d.states.all} {lines = d.rows.all} (record {
       inputs = f.0.1;
       outputs = f.1.0.1;
       states = f.1.1.0.1;
@@ -155,8 +156,8 @@ fits_ranged d f =
       lines_filled = record { rest = ap (λ (x : Draft). x.rows.all) lines.1; each = front_every (RowRanged d.inputs d.outputs d.states.count) no_row d.rows.count d.rows.all lines.0.0 lines.0.1 };
     })
 
-pub spelt_draft : Spelt book draft_parts Ranged
+pub spelt_draft : Spelt book draft_parts Formed
 spelt_draft =
     let same : (d : Draft) → draft_parts d ≡ head_parts (codes "inputs") d.inputs ++ (head_parts (codes "outputs") d.outputs ++ (head_parts (codes "states") d.states.count ++ states_spelt d)) =
     λ d. ap (λ ps. head_parts (codes "inputs") d.inputs ++ (head_parts (codes "outputs") d.outputs ++ (head_parts (codes "states") d.states.count ++ (flat_map state_parts (states_of d) ++ (head_parts (codes "rows") d.rows.count ++ ps))))) (sym (append-nil (flat_map row_parts (rows_of d)))) in
-    spelt_as (λ d r. (ranged_fits d r, same d)) (λ d f. (fits_ranged d f, same d)) spelt_book
+    spelt_as (λ d r. (formed_fits d r, same d)) (λ d f. (fits_formed d f, same d)) spelt_book

@@ -8,7 +8,7 @@ use Rattle.text.specs.declared.draft.Row.{Row}
 use Rattle.text.specs.declared.draft.State.{State}
 use Rattle.text.specs.declared.draft.State.TheVariants.{Stay}
 use Rattle.text.specs.declared.lexer.Lexer.{Lexer}
-use Rattle.text.specs.Draft.{no_row, StateRanged, RowRanged, Ranged}
+use Rattle.text.specs.Draft.{no_row, StateRanged, RowRanged, Ranged, Formed}
 use Rattle.text.specs.Grammar.{on, ◌>>=◌, done, section, many, state, row, draft_of, book}
 use Rattle.text.specs.Lexer.{whole}
 use Rattle.text.specs.Limits.{max_inputs, max_outputs, max_states, max_rows}
@@ -70,9 +70,17 @@ module _ {i o n m : ℕ} {kinds : List State} {lines : List Row} (parts : Parts 
         states = parts.kinds_filled.each;
         named = λ k h. (parts.lines_filled.each k h).0;
         guards = λ k h. (parts.lines_filled.each k h).1;
-        sized = (filled_size _ n Stay _ kinds (omega arith) parts.kinds_filled, filled_size _ m no_row _ lines (omega arith) parts.lines_filled);
         states_padded = λ k h. padded_past _ n k Stay _ kinds h parts.kinds_filled;
         rows_padded = λ k h. padded_past _ m k no_row _ lines h parts.lines_filled;
+      }
+
+  pub formed : Formed (made_of i o n kinds m lines)
+  formed =
+      let few = parts.states.1 in
+      let short = parts.rows.1 in
+      record {
+        ranged = ranged;
+        sized = (filled_size _ n Stay _ kinds (omega arith) parts.kinds_filled, filled_size _ m no_row _ lines (omega arith) parts.lines_filled);
       }
 
   draft_is : draft_of i o n (take n kinds) m (take m lines) ≡ made_of i o n kinds m lines

@@ -6,7 +6,7 @@ use Rattle.text.specs.declared.draft.Draft.{Draft}
 use Rattle.text.specs.declared.fault.TextFault.{TextFault}
 use Rattle.text.specs.declared.fault.TextFault.TheVariants.{TooLong, Malformed, Unexpected, OutOfRange, Trailing, BufferTooShort}
 use Rattle.text.specs.declared.token.Kind.TheVariants.{Blank}
-use Rattle.text.specs.Draft.{Ranged}
+use Rattle.text.specs.Draft.{Formed}
 use Rattle.text.specs.Grammar.{book, placed, reading_from, reading}
 use Rattle.text.specs.Limits.{max_bytes}
 use Rattle.text.specs.Parts.{Other, Proper, Next, Begins, HasParts, Writes}
@@ -22,11 +22,11 @@ use Rattle.text.proofs.Readers as readers
 
 -- what goes on by the parts of drafts goes on by their texts
 
-goes_on : (ps : List Part) (p : Part) → readers.GoesOn draft_parts Ranged ps p → GoesOn ps p
-goes_on ps p go = record { draft = go.thing; ranged = go.fits; later = go.later; parts = subst (HasParts (canonical go.thing)) go.is (canonical_parts go.thing go.fits) }
+goes_on : (ps : List Part) (p : Part) → readers.GoesOn draft_parts Formed ps p → GoesOn ps p
+goes_on ps p go = record { draft = go.thing; formed = go.fits; later = go.later; parts = subst (HasParts (canonical go.thing)) go.is (canonical_parts go.thing go.fits) }
 
-goes_back : (ps : List Part) (p : Part) → GoesOn ps p → readers.GoesOn draft_parts Ranged ps p
-goes_back ps p go = record { thing = go.draft; fits = go.ranged; later = go.later; is = same_parts (canonical go.draft) (draft_parts go.draft) (ps ++ (p ∷ go.later)) (canonical_parts go.draft go.ranged) go.parts }
+goes_back : (ps : List Part) (p : Part) → GoesOn ps p → readers.GoesOn draft_parts Formed ps p
+goes_back ps p go = record { thing = go.draft; fits = go.formed; later = go.later; is = same_parts (canonical go.draft) (draft_parts go.draft) (ps ++ (p ∷ go.later)) (canonical_parts go.draft go.formed) go.parts }
 
 -- what stands at the place, as the lexer finds it
 
@@ -45,7 +45,7 @@ module _ (here : List ℕ) (first : Other Blank here) where
 
 -- a text that stops at a place, with the reason
 
-module _ (text : List ℕ) (from : ℕ) (few : length text ≤ max_bytes) (e : ℕ → TextFault) (left : List ℕ) (r : readers.Refusal draft_parts Ranged (drop from text) e left) where
+module _ (text : List ℕ) (from : ℕ) (few : length text ≤ max_bytes) (e : ℕ → TextFault) (left : List ℕ) (r : readers.Refusal draft_parts Formed (drop from text) e left) where
   abbrev at : ℕ
   at = length text - length left
 
@@ -79,7 +79,7 @@ module _ (text : List ℕ) (from : ℕ) (few : length text ≤ max_bytes) (e : �
     within = omega arith;
   }
 
-  other_part : (w : readers.Other (readers.GoesOn draft_parts Ranged r.before) (part (skip r.rest))) → (drop at text ≡ []) ⊎ OtherPart r.before text at
+  other_part : (w : readers.Other (readers.GoesOn draft_parts Formed r.before) (part (skip r.rest))) → (drop at text ≡ []) ⊎ OtherPart r.before text at
   other_part w =
       ⊎_elim
       (λ (one : real w.found ≡ true). inr (record {
@@ -92,7 +92,7 @@ module _ (text : List ℕ) (from : ℕ) (few : length text ≤ max_bytes) (e : �
       (λ (none : real w.found ≡ false). inl (at_end (drop at text) w.found w.rest (part_here _ w.is) none))
       (cases_Bool (real w.found))
 
-  refused_why : readers.Why (readers.GoesOn draft_parts Ranged r.before) (part (skip r.rest)) e → Refused text from (e at)
+  refused_why : readers.Why (readers.GoesOn draft_parts Formed r.before) (part (skip r.rest)) e → Refused text from (e at)
   unfolding stopped
   refused_why (inl w) =
       let n = no_part (drop at text) first_here w.1.from (part_here _ w.1.is) in
@@ -133,7 +133,7 @@ refused_right text from f h = refused_by text from f (ltb max_bytes (length text
 goes_before : (ps qs : List Part) (p q : Part) → GoesOn (ps ++ (p ∷ qs)) q → GoesOn ps p
 goes_before ps qs p q go = record {
   draft = go.draft;
-  ranged = go.ranged;
+  formed = go.formed;
   later = qs ++ (q ∷ go.later);
   parts = subst (HasParts (canonical go.draft)) (append_assoc ps (p ∷ qs) (q ∷ go.later)) go.parts;
 }
@@ -167,7 +167,7 @@ one_stop before (p ∷ ps) (q ∷ qs) bs rest others f g never none goes go =
     (λ i. same.0 i ∷ later.0 i, later.1)
 
 -- no draft's parts go on behind all parts of a draft
-goes_no_further : (d : Draft) (qs : List Part) (p : Part) → Ranged d → GoesOn (draft_parts d ++ qs) p → ⊥
+goes_no_further : (d : Draft) (qs : List Part) (p : Part) → Formed d → GoesOn (draft_parts d ++ qs) p → ⊥
 goes_no_further d qs p r go =
     let back = goes_back (draft_parts d ++ qs) p go in
     let all : draft_parts back.thing ≡ draft_parts d ++ (qs ++ (p ∷ back.later)) = back.is ∙ append_assoc (draft_parts d) qs (p ∷ back.later) in
@@ -178,7 +178,7 @@ goes_no_further d qs p r go =
 
 -- a text that reads as a draft is stuck nowhere
 read_free : (d : Draft) (before ps qs : List Part) (bs rest others : List ℕ)
-    → Ranged d
+    → Formed d
     → draft_parts d ≡ before ++ qs
     → Follows ps bs rest
     → Follows qs bs others
@@ -241,7 +241,7 @@ refused_halts text from TooLong few h = absurd (omega arith)
 refused_halts text from (Malformed at) few h = malformed_halts text from at h.0 h.1
 refused_halts text from (Unexpected at) few h = other_halts text from at h.0 h.1
 refused_halts text from (OutOfRange at) few h = range_halts text from at h.0 h.1
-refused_halts text from (Trailing at) few h = absurd h
+refused_halts text from (Trailing _) few h = absurd h
 refused_halts text from BufferTooShort few h = absurd h
 
 -- a part that is refused is none with which the text could go on
@@ -294,9 +294,9 @@ module _ (text : List ℕ) (from : ℕ) where
   halts_unread f d to h w =
       let s = h.stop in
       let p = w.parts in
-      let same : p.parts ≡ draft_parts d = same_parts (canonical d) p.parts (draft_parts d) p.others (canonical_parts d w.ranged) in
+      let same : p.parts ≡ draft_parts d = same_parts (canonical d) p.parts (draft_parts d) p.others (canonical_parts d w.formed) in
       let all = begins_follows (draft_parts d) (drop from text) (drop to text) (subst (λ (ps : List Part). Begins ps (drop from text) (drop to text)) same p.there) in
-      read_free d [] s.before (draft_parts d) (drop from text) s.rest (drop to text) w.ranged refl (follow_of h) all (why_never h.why) s.due s.goes
+      read_free d [] s.before (draft_parts d) (drop from text) s.rest (drop to text) w.formed refl (follow_of h) all (why_never h.why) s.due s.goes
 
   -- a text that is too long has no other fault
   too_long : (f : TextFault) → Refused text from f → max_bytes < length text → reading text from ≡ Err f

@@ -83,6 +83,10 @@ pub record Ranged (d : Draft) : Type 0 where
   pub states : StatesRanged d
   pub named : RowsNamed d
   pub guards : GuardsRanged d
-  pub sized : Sized d
   pub states_padded : StatesPadded d
   pub rows_padded : RowsPadded d
+
+-- a draft as the code holds one: its numbers lie in their ranges, and its arrays have their places
+pub record Formed (d : Draft) : Type 0 where
+  pub ranged : Ranged d
+  pub sized : Sized d

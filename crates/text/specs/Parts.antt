@@ -5,7 +5,7 @@ use Rattle.text.specs.declared.draft.Draft.{Draft}
 use Rattle.text.specs.declared.fault.TextFault.{TextFault}
 use Rattle.text.specs.declared.token.Kind.{Kind}
 use Rattle.text.specs.declared.token.Kind.TheVariants.{Blank, Letter, Digit}
-use Rattle.text.specs.Draft.{Ranged}
+use Rattle.text.specs.Draft.{Formed}
 use Rattle.text.specs.Grammar.{reading}
 use Rattle.text.specs.Limits.{max_bytes, number_limit}
 use Rattle.text.specs.Token.{Part, word, number, mark, end, is_of, is_mark}
@@ -68,7 +68,7 @@ pub record PartsOf (other text : List ℕ) (from to : ℕ) : Type 0 where
 -- between the two places a text of no more bytes than a text may have writes the draft: it has the parts of the draft's canonical text
 pub record Writes (text : List ℕ) (from : ℕ) (d : Draft) (to : ℕ) : Type 0 where
   pub few : length text ≤ max_bytes
-  pub ranged : Ranged d
+  pub formed : Formed d
   pub parts : PartsOf (canonical d) text from to
 
 -- the answer to a text is a draft and a place exactly where the text writes the draft up to that place

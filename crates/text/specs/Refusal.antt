@@ -4,7 +4,7 @@ use Rattle.text.specs.declared.draft.Draft.{Draft}
 use Rattle.text.specs.declared.fault.TextFault.{TextFault}
 use Rattle.text.specs.declared.fault.TextFault.TheVariants.{TooLong, Malformed, Unexpected, OutOfRange, Trailing, BufferTooShort}
 use Rattle.text.specs.declared.token.Kind.TheVariants.{Blank}
-use Rattle.text.specs.Draft.{Ranged}
+use Rattle.text.specs.Draft.{Formed}
 use Rattle.text.specs.Limits.{max_bytes}
 use Rattle.text.specs.Parts.{All, Other, Next, Begins, HasParts}
 use Rattle.text.specs.Token.{Part, number}
@@ -13,7 +13,7 @@ use Rattle.text.specs.Write.{canonical}
 -- some draft's canonical text begins with these parts and goes on with p
 pub record GoesOn (ps : List Part) (p : Part) : Type 0 where
   pub draft : Draft
-  pub ranged : Ranged draft
+  pub formed : Formed draft
   pub later : List Part
   pub parts : HasParts (canonical draft) (ps ++ (p ∷ later))
 

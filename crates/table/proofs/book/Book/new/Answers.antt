@@ -1,8 +1,9 @@
 use Rattle.std.proofs.Common.{sym, subst}
+use Rattle.text.specs.Draft.{Sized}
 use Rattle.table.specs.Sound.{Sound}
 use Rattle.table.specs.Books.{book_sound}
 use Rattle.table.proofs.Checks.{sound_table}
-use Rattle.table.proofs.Freshes.{fresh_sound}
+use Rattle.table.proofs.Freshes.{fresh_sized, fresh_sound}
 use Rattle.table.specs.Paddings.{stays_behind, no_rows_behind}
 use Rattle.table.proofs.book.Book.new.Goals as goal
 
@@ -20,7 +21,7 @@ invariant_of-result c =
       states_ranged = g.states;
       rows_named = g.named;
       guards_ranged = g.guards;
-      sized = g.sized;
+      sized = subst Sized (sym c.fresh-draft.ensures) fresh_sized;
       states_padded = stays_behind d g.states_padded;
       rows_padded = no_rows_behind d g.rows_padded;
       none_empty = s.none_empty;
