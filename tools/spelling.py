@@ -1,5 +1,6 @@
 #!/usr/bin/env python3
-"""Respells the repository's own definitions, fields, constructors and lemmas: words joined by `_` where they were joined by `-`.
+"""Respells the repository's own definitions, fields, constructors and lemmas: words joined by `_` where they were joined by `-`, and by
+capitals in the name of a type.
 
 usage: tools/spelling.py [--list]    at the top of the repository
 
@@ -21,6 +22,10 @@ BOUND = re.compile(r"(?:\blet\s+|λ\s+|λ\s+\(|[({]|[({](?:[A-Za-z0-9_'-]+\s+)+)
 RECORD = re.compile(r"^(\s*)(?:pub\s+)?record\b.*\bwhere\s*$")
 OURS = re.compile(r"Rattle\.(?:text|table|compare|judge)\.")
 IMPORT = re.compile(r"^(?:ghost )?use ([\w.]+)\.\{([^}]*)\}", re.M)
+RESERVED = set(
+    "data record deriving module where use mod pub package open as unfoldable abbrev axiom unfold unfolding ruleset mutual infix infixl infixr elim let in do Type coe fcoe tcoe hcom com".split()
+)
+QUOTED = re.compile(r"«(\w+)»")
 MODULE = re.compile(r"^use [\w.]+ as ([\w]+)$", re.M)
 
 # ghost fields of a book, and the fields of its soundness that say the same
@@ -60,6 +65,12 @@ def own(texts):
     return found, fields
 
 
+def spelt_today(name):
+    """Words joined by `_`; a type's, by capitals."""
+    words = name.split("-")
+    return "".join(word[:1].upper() + word[1:] for word in words) if name[0].isupper() else "_".join(words)
+
+
 def library(text):
     """The names that a file imports from elsewhere."""
     return {name.split(" as ")[0].strip() for it in IMPORT.finditer(text) if not OURS.match(it[1] + ".") for name in it[2].split(",")}
@@ -80,7 +91,7 @@ def main(argv):
         if path.endswith(".antt"):
             for it in PLAIN.finditer(text):
                 plain.setdefault(it[0], path)
-    flat = {name: name.replace("-", "_") for name in names}
+    flat = {name: spelt_today(name) for name in names}
     clashes = [(name, plain[flat[name]]) for name in sorted(names) if flat[name] in plain and flat[name] not in ALIKE]
     if clashes:
         for name, path in clashes:
@@ -95,7 +106,7 @@ def main(argv):
             after_dot = before.endswith(".") and not re.search(r"(?<![\w.-])(?:" + "|".join(modules or ["-"]) + r")\.$", before[-40:])
             return it[0] if it[0] not in names or it[0] in kept or (after_dot and it[0] not in fields) else flat[it[0]]
 
-        turned = WORD.sub(spelt, text)
+        turned = QUOTED.sub(lambda it: it[0] if it[1] in RESERVED else it[1], WORD.sub(spelt, text))
         if turned != text:
             with open(path, "w", encoding="utf-8") as f:
                 f.write(turned)

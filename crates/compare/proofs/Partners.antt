@@ -7,7 +7,7 @@ use Rattle.table.specs.declared.word.Step.{Step}
 use Rattle.table.proofs.Strings.{leads_in}
 use Rattle.compare.specs.Cell.{blank}
 use Rattle.compare.specs.Compare.{cells_needed}
-use Rattle.compare.specs.Partner.{Reached, Together, Cells_searched, Searched_if_alike}
+use Rattle.compare.specs.Partner.{Reached, Together, CellsSearched, SearchedIfAlike}
 use Rattle.compare.specs.Search.{at, Queued, Inv, Searched}
 use Rattle.compare.specs.declared.cell.Cell.{Cell}
 use Rattle.compare.specs.declared.compare.Verdict.{Verdict}
@@ -40,7 +40,7 @@ module _ (m n : Meaning) (W : ℕ → List Step) (cs : List Cell) (tail : ℕ) (
   queued_seen s t q =
       sym (ap (λ (x : ℕ). (at cs (x * n.count + (at cs q.place).right)).seen) q.is_left ∙ ap (λ (x : ℕ). (at cs (s * n.count + x)).seen) q.is_right) ∙ inv.all_seen q.place q.below
 
-module _ (m n : Meaning) (cs : List Cell) (holding : Cells_searched m n cs) where
+module _ (m n : Meaning) (cs : List Cell) (holding : CellsSearched m n cs) where
   -- the mark of a pair, in the part that the search used
   part_mark : (s t : ℕ) → s < m.count → t < n.count → at (take (cells_needed m n) cs) (s * n.count + t) ≡ at cs (s * n.count + t)
   part_mark s t hs ht = get_or-take (cells_needed m n) cs (s * n.count + t) blank (number_in s t n.count m.count hs ht)
@@ -70,6 +70,6 @@ pub unmarked_past : (cs : List Cell) (k : ℕ) → length cs ≤ k → (at cs k)
 unmarked_past cs k h e = omega (arith, ap (λ (c : Cell). c.seen) (get_or_past cs k blank h), e)
 
 -- a search in the first part of the cells
-pub part_searched : (m n : Meaning) (v : Verdict) (part rest : List Cell) → length part ≡ cells_needed m n → (v ≡ Alike → Searched m n part) → Searched_if_alike m n (Ok v) (part ++ rest)
+pub part_searched : (m n : Meaning) (v : Verdict) (part rest : List Cell) → length part ≡ cells_needed m n → (v ≡ Alike → Searched m n part) → SearchedIfAlike m n (Ok v) (part ++ rest)
 part_searched m n Alike part rest long searched = subst (λ (cs : List Cell). Searched m n cs) (sym (take_at part rest (cells_needed m n) long)) (searched refl)
 part_searched m n (Different count entries) part rest long searched = tt

@@ -12,12 +12,12 @@ use Rattle.compare.specs.Search.{Searched, Told}
 use Rattle.compare.specs.Spell.{takes, Chain, Chained, Counted, Tallied, Spelled}
 use Rattle.compare.specs.declared.cell.Cell.{Cell}
 use Rattle.compare.specs.declared.compare.Verdict.{Verdict}
-use Rattle.compare.specs.declared.compare.Verdict.TheVariants.{Alike as Found_alike, Different}
+use Rattle.compare.specs.declared.compare.Verdict.TheVariants.{Alike as FoundAlike, Different}
 use Rattle.compare.proofs.Grown.{tail_room}
 use Rattle.compare.proofs.Findings.{all_same, Shortest, shortest}
 use Rattle.compare.proofs.Walks.{chain_short}
 
-pub searched_alike : (m n : Meaning) (cs : List Cell) → m.inputs ≡ n.inputs → Searched m n cs → (word : List Entry) → Decided m n Found_alike word word
+pub searched_alike : (m n : Meaning) (cs : List Cell) → m.inputs ≡ n.inputs → Searched m n cs → (word : List Entry) → Decided m n FoundAlike word word
 searched_alike m n cs inputs done word = (strings_alike m n inputs (all_same m n done.holds.strings cs done.tail done.holds.inv), refl)
 
 module _ (m n : Meaning) (cs : List Cell) (place input : ℕ) (told : Told m n cs place input) where
@@ -72,5 +72,5 @@ module _ (m n : Meaning) (cs : List Cell) (place input : ℕ) (told : Told m n c
   told_different entries before after spelled fits long rest v is =
       subst (λ (x : Verdict). Decided m n x before after) (sym is) (telling (take entries after) spelled entries before after refl fits long rest)
 
-pub differs : (v : Verdict) (count entries : ℕ) → v ≡ Different count entries → v ≡ Found_alike → ⊥
+pub differs : (v : Verdict) (count entries : ℕ) → v ≡ Different count entries → v ≡ FoundAlike → ⊥
 differs v count entries p q = let z : ◌≡◌ {A = ℕ} 0 1 = cc in omega arith

@@ -6,7 +6,7 @@ use Rattle.table.specs.declared.word.Entry.{Entry}
 use Rattle.compare.specs.declared.fault.CompareFault.{CompareFault}
 use Rattle.compare.specs.declared.fault.CompareFault.TheVariants.{Table, Inputs, Cells, Entries, Report}
 use Rattle.compare.specs.declared.compare.Verdict.{Verdict}
-use Rattle.compare.specs.declared.compare.Verdict.TheVariants.{Alike as Found_alike, Different}
+use Rattle.compare.specs.declared.compare.Verdict.TheVariants.{Alike as FoundAlike, Different}
 
 -- the cells that comparing the two needs: one for each pair of states
 abbrev pub cells_needed : Meaning → Meaning → ℕ
@@ -28,7 +28,7 @@ pub record Telling (a b : Meaning) (count entries : ℕ) (before after : List En
 
 -- what a verdict on the two says, with the word buffer before and after
 abbrev pub Decided : Meaning → Meaning → Verdict → List Entry → List Entry → Type 0
-Decided a b Found_alike before after = Alike a b × (after ≡ before)
+Decided a b FoundAlike before after = Alike a b × (after ≡ before)
 Decided a b (Different count entries) before after = Telling a b count entries before after
 
 -- what is answered with so many cells: a refusal exactly on its condition and on none before it, else the verdict

@@ -29,11 +29,11 @@ Partner a b s (Some t) = Together a b s t
 Partner a b s None = Reached a s → ⊥
 
 -- the cells hold a whole search of the two
-abbrev pub Cells_searched : Meaning → Meaning → List Cell → Type 0
-Cells_searched a b cs = Searched a b (take (cells_needed a b) cs)
+abbrev pub CellsSearched : Meaning → Meaning → List Cell → Type 0
+CellsSearched a b cs = Searched a b (take (cells_needed a b) cs)
 
 -- after a verdict of alike they do
-abbrev pub Searched_if_alike : Meaning → Meaning → Result Verdict CompareFault → List Cell → Type 0
-Searched_if_alike a b (Ok Alike) cs = Cells_searched a b cs
-Searched_if_alike a b (Ok (Different count entries)) cs = Unit {0}
-Searched_if_alike a b (Err f) cs = Unit {0}
+abbrev pub SearchedIfAlike : Meaning → Meaning → Result Verdict CompareFault → List Cell → Type 0
+SearchedIfAlike a b (Ok Alike) cs = CellsSearched a b cs
+SearchedIfAlike a b (Ok (Different count entries)) cs = Unit {0}
+SearchedIfAlike a b (Err f) cs = Unit {0}

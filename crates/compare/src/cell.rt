@@ -1,8 +1,8 @@
 //! The cells that a caller lends to a comparison.
 
 ghost use Rattle.std.specs.Prelude.{◌≡◌, ◌≤◌};
-ghost use Rattle.text.specs.Limits.{«max_inputs»};
-ghost use Rattle.compare.specs.Cell.{blank, AllBlank, «number_of», «step_of»};
+ghost use Rattle.text.specs.Limits.{max_inputs};
+ghost use Rattle.compare.specs.Cell.{blank, AllBlank, number_of, step_of};
 
 use table::word::Step;
 
@@ -37,7 +37,7 @@ impl Cell {
 
 /// The number of a step in a cell: 0 for a tick, and above it the inputs.
 pub fn step_number(step: Step) -> u16
-    ensures { result ≡ «number_of» step }
+    ensures { result ≡ number_of step }
 {
     match step {
         Step::Tick => 0,
@@ -47,8 +47,8 @@ pub fn step_number(step: Step) -> u16
 
 /// The step that has a number, of the steps of a machine.
 pub(crate) fn numbered_step(number: u16) -> Step
-    requires { number ≤ «max_inputs» }
-    ensures { result ≡ «step_of» number }
+    requires { number ≤ max_inputs }
+    ensures { result ≡ step_of number }
 {
     if number == 0 {
         Step::Tick

@@ -5,8 +5,8 @@ ghost use Rattle.table.specs.Means.{means};
 ghost use Rattle.table.specs.Word.{steps};
 ghost use Rattle.compare.specs.Cell.{AllBlank};
 ghost use Rattle.compare.specs.declared.compare.Verdict.TheVariants.{Different};
-ghost use Rattle.compare.specs.Compare.{«cells_needed», «entries_needed», Decided, Compared};
-ghost use Rattle.compare.specs.Partner.{«Searched_if_alike»};
+ghost use Rattle.compare.specs.Compare.{cells_needed, entries_needed, Decided, Compared};
+ghost use Rattle.compare.specs.Partner.{SearchedIfAlike};
 ghost use Rattle.compare.specs.Search.{Searched};
 
 use crate::cell::{Cell, clear};
@@ -27,14 +27,14 @@ pub enum Verdict {
 
 /// How many cells a comparison of the two needs: one for each pair of states.
 pub fn cells_needed<M: Machine, N: Machine>(left: &M, right: &N) -> usize
-    ensures { result ≡ «cells_needed» (means M.Machine left.now) (means N.Machine right.now) }
+    ensures { result ≡ cells_needed (means M.Machine left.now) (means N.Machine right.now) }
 {
     left.count() as usize * right.count() as usize
 }
 
 /// How many word entries a comparison of the two needs.
 pub fn entries_needed<M: Machine, N: Machine>(left: &M, right: &N) -> usize
-    ensures { result ≡ «entries_needed» (means M.Machine left.now) (means N.Machine right.now) }
+    ensures { result ≡ entries_needed (means M.Machine left.now) (means N.Machine right.now) }
 {
     left.count() as usize * right.count() as usize
 }
@@ -81,7 +81,7 @@ pub fn compare_in<M: Machine, N: Machine>(
     word: &mut [Entry],
 ) -> Result<Verdict, CompareFault>
     ensures compared { Compared (means M.Machine left.now) (means N.Machine right.now) (length cells.old) result word.old word.new }
-    ensures searched { «Searched_if_alike» (means M.Machine left.now) (means N.Machine right.now) result cells.new }
+    ensures searched { SearchedIfAlike (means M.Machine left.now) (means N.Machine right.now) result cells.new }
 {
     if left.inputs() != right.inputs() {
         return Err(CompareFault::Inputs);

@@ -2,7 +2,7 @@
 
 ghost use Rattle.std.specs.Prelude.{◌≡◌, true, false, ◌≢◌};
 ghost use Rattle.table.specs.Means.{means};
-ghost use Rattle.compare.specs.Partner.{Partner, Cells_searched};
+ghost use Rattle.compare.specs.Partner.{Partner, CellsSearched};
 ghost use Rattle.compare.specs.Search.{at};
 
 use crate::cell::Cell;
@@ -23,7 +23,7 @@ pub fn partner<M: Machine, N: Machine>(
     cells: &[Cell],
     state: u16,
 ) -> Option<u16>
-    ensures { Cells_searched (means M.Machine left.now) (means N.Machine right.now) cells.now → Partner (means M.Machine left.now) (means N.Machine right.now) state result }
+    ensures { CellsSearched (means M.Machine left.now) (means N.Machine right.now) cells.now → Partner (means M.Machine left.now) (means N.Machine right.now) state result }
 {
     if state >= left.count() {
         return None;

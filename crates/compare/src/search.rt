@@ -3,7 +3,7 @@
 ghost use Rattle.std.specs.Prelude.{◌≡◌, ◌+◌, ◌-◌, ◌*◌, ◌<◌, ◌≢◌, length, MatchOption};
 ghost use Rattle.table.specs.Means.{means};
 ghost use Rattle.compare.specs.Cell.{AllBlank};
-ghost use Rattle.compare.specs.Search.{at, placed, marked, «pair_number», Queueing, Holds, Visited, Searched, Told};
+ghost use Rattle.compare.specs.Search.{at, placed, marked, pair_number, Queueing, Holds, Visited, Searched, Told};
 
 use crate::cell::{Cell, step_number};
 use table::machine::Machine;
@@ -51,8 +51,8 @@ fn place(cells: &mut [Cell], tail: usize, item: Cell, number: usize)
 
 /// Queues an item unless its pair is seen, and answers where the queue then ends.
 fn queue(cells: &mut [Cell], width: u16, tail: usize, item: Cell) -> usize
-    requires inside { «pair_number» width item < length cells.old }
-    requires room { (at cells.old («pair_number» width item)).seen ≢ 1 → tail < length cells.old }
+    requires inside { pair_number width item < length cells.old }
+    requires room { (at cells.old (pair_number width item)).seen ≢ 1 → tail < length cells.old }
     ensures { Queueing width cells.old cells.new tail item result }
 {
     let number = item.left as usize * width as usize + item.right as usize;

@@ -1,15 +1,15 @@
 //! Reading a word off the parents of the queue, from the back.
 
 ghost use Rattle.std.specs.Prelude.{◌≡◌, ◌+◌, ◌-◌, ◌<◌, ◌≤◌, length, take, drop};
-ghost use Rattle.compare.specs.Search.{«max_pairs»};
-ghost use Rattle.compare.specs.Spell.{«one_take», Chained, Counted, Tallied, Spelled};
+ghost use Rattle.compare.specs.Search.{max_pairs};
+ghost use Rattle.compare.specs.Spell.{one_take, Chained, Counted, Tallied, Spelled};
 
 use crate::cell::{Cell, numbered_step};
 use table::word::{Entry, Step};
 
 /// How many entries a step adds to a word: one for a take.
 fn entries_of(step: Step) -> u32
-    ensures is { result ≡ «one_take» step }
+    ensures is { result ≡ one_take step }
     ensures few { result ≤ 1 }
 {
     match step {
@@ -21,7 +21,7 @@ fn entries_of(step: Step) -> u32
 /// How many entries the word has that leads to the item at `place` and then takes one input more.
 pub(crate) fn count_entries(cells: &[Cell], place: usize) -> u32
     requires inside { place < length cells.now }
-    requires few { length cells.now ≤ «max_pairs» }
+    requires few { length cells.now ≤ max_pairs }
     requires chained { Chained cells.now place }
     ensures tallied { Tallied cells.now place 0 result }
     ensures short { (result ≤ place + 1) × (0 < result) }
@@ -39,7 +39,7 @@ pub(crate) fn count_entries(cells: &[Cell], place: usize) -> u32
 /// Writes that word at the start of the buffer, from its last entry to its first.
 pub(crate) fn spell(cells: &[Cell], place: usize, input: u8, entries: usize, word: &mut [Entry])
     requires inside { place < length cells.now }
-    requires few { length cells.now ≤ «max_pairs» }
+    requires few { length cells.now ≤ max_pairs }
     requires room { entries ≤ length word.old }
     requires some { 0 < entries }
     requires counted { Counted cells.now place place (entries - 1) }
