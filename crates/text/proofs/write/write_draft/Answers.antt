@@ -1,4 +1,4 @@
-use Rattle.std.proofs.Common.{◌≡◌, length, arith, rules}
+use Rattle.std.proofs.Common.{arith, rules}
 use Rattle.text.specs.Draft.{Sized}
 use Rattle.text.proofs.Exactly.{reads_back}
 use Rattle.text.proofs.Puts.{too_short, copied}
