@@ -5,7 +5,7 @@ capitals in the name of a type.
 usage: tools/spelling.py [--list]    at the top of the repository
 
 The names that the checker makes (goals, steps) and the library's keep their dashes. It stops, and writes nothing, where two names
-would fall together.
+of specs/ and proofs/ would fall together.
 """
 
 import os

@@ -28,12 +28,12 @@ const VARIED: [&str; 12] = [
 const REST: [&str; 9] = ["", " ", "\n \n", "x", "rows 2", "0123", "\0", ")", PLAIN];
 
 /// What a buffer holds before it is written to.
-const MARK: u8 = b'~';
+const UNTOUCHED: u8 = b'~';
 
 /// Whether all bytes are as they were before.
 fn is_untouched(bytes: &[u8]) -> bool {
     for byte in bytes {
-        if *byte != MARK {
+        if *byte != UNTOUCHED {
             return false;
         }
     }
@@ -62,7 +62,7 @@ fn fills(book: &Book, buffer: &mut [u8], text: &[u8]) -> bool {
 /// Whether the text is read as the book that it was written of, whatever stands behind it.
 fn reads_back(rt: &impl Abort, text: &[u8]) -> Result<(), Fail> {
     for behind in REST {
-        let mut longer = [MARK; ROOM];
+        let mut longer = [UNTOUCHED; ROOM];
         let at = put(&mut longer, 0, text);
         let end = put(&mut longer, at, behind.as_bytes()).min(longer.len());
         assert!(rt;
@@ -80,18 +80,21 @@ fn try_book(rt: &impl Abort, book: &Book, text: &[u8]) -> Result<(), Fail> {
     assert!(rt; 0 < length && length < ROOM);
     assert!(rt; is_too_short(book, &mut []), "empty");
     assert!(rt;
-        is_too_short(book, &mut [MARK; ROOM][0..length - 1]),
+        is_too_short(book, &mut [UNTOUCHED; ROOM][0..length - 1]),
         "one short"
     );
     assert!(rt;
-        fills(book, &mut [MARK; ROOM][0..length], text),
+        fills(book, &mut [UNTOUCHED; ROOM][0..length], text),
         "just enough"
     );
     assert!(rt;
-        fills(book, &mut [MARK; ROOM][0..length + 1], text),
+        fills(book, &mut [UNTOUCHED; ROOM][0..length + 1], text),
         "one to spare"
     );
-    assert!(rt; fills(book, &mut [MARK; ROOM], text), "more than enough");
+    assert!(rt;
+        fills(book, &mut [UNTOUCHED; ROOM], text),
+        "more than enough"
+    );
     reads_back(rt, text)
 }
 

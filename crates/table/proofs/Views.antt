@@ -1,4 +1,4 @@
--- A view's table: an entry without a fault is an output, and so is what a view passes on.
+-- A view's table: an entry without a fault is an output, and so is what the machine below draws.
 use Rattle.std.proofs.Common.{◌≡◌, ℕ, ◌<◌, ◌≤◌, ◌&&◌, ltb, List, get_or, Some, None, Option, sym, ap, subst}
 use Rattle.std.proofs.lemmas.Bool.{leb-false, le-leb, lt-leb, and_parts, ltb-true}
 use Rattle.text.specs.Limits.{max_outputs}
