@@ -6,4 +6,3 @@ pub mod Walks
 pub mod Verdicts
 pub mod Partners
 pub mod Reports
-pub mod Judging

@@ -1,15 +1,15 @@
 -- The search's invariant over one item more in the queue.
-use Rattle.std.proofs.Common.{◌≡◌, ℕ, ◌+◌, ◌-◌, ◌*◌, ◌/◌, ◌%◌, ◌<◌, ◌≤◌, cond, eqb, ◌≢◌, ◌⊎◌, List, [], ◌∷◌, ◌++◌, length, sym, refl, ap, ◌∙◌, subst, inl, inr, ⊎_elim, arith}
+use Rattle.std.proofs.Common.{◌≡◌, ℕ, ◌+◌, ◌-◌, ◌/◌, ◌%◌, ◌<◌, ◌≤◌, cond, eqb, ◌≢◌, ◌⊎◌, List, [], ◌∷◌, ◌++◌, length, sym, refl, ap, ◌∙◌, subst, inl, inr, ⊎_elim, arith, below_more}
 use Rattle.std.proofs.lemmas.Bool.{cases_eq, eq-eqb, ne_eqb, cond-true, cond-false}
 use Rattle.std.proofs.lemmas.Nat.{div-mul-add, mod-mul-add}
 use Rattle.text.specs.Limits.{max_inputs}
 use Rattle.table.specs.Meaning.{Meaning, output}
-use Rattle.table.specs.Steps.{Fit, after}
+use Rattle.table.specs.Steps.{Fit, after, leads}
 use Rattle.table.specs.declared.word.Step.{Step}
 use Rattle.table.specs.declared.word.Step.TheVariants.{Tick, Take}
 use Rattle.table.proofs.Strings.{over_append, leads_append, length_push}
 use Rattle.compare.specs.Cell.{number_of, step_of}
-use Rattle.compare.specs.Search.{at, Queued, Follow, Item, Link, Inv, Past}
+use Rattle.compare.specs.Search.{at, pair_number, Queued, Follow, Item, Link, Inv, Past}
 use Rattle.compare.specs.declared.cell.Cell.{Cell}
 use Rattle.compare.proofs.Grown.{Same, Grown}
 
@@ -42,11 +42,20 @@ number_within r (Take i) f = omega arith
 
 -- one number stands for one pair
 
-pub row_same : (w a b c d : ℕ) → b < w → d < w → a * w + b ≡ c * w + d → a ≡ c
-row_same w a b c d hb hd e = sym (div-mul-add a w b hb) ∙ ap (λ (x : ℕ). x / w) e ∙ div-mul-add c w d hd
+same_left : (w a b c d : ℕ) → b < w → d < w → pair_number w a b ≡ pair_number w c d → a ≡ c
+same_left w a b c d hb hd e = sym (div-mul-add a w b hb) ∙ ap (λ (x : ℕ). x / w) e ∙ div-mul-add c w d hd
 
-pub column_same : (w a b c d : ℕ) → b < w → d < w → a * w + b ≡ c * w + d → b ≡ d
-column_same w a b c d hb hd e = sym (mod-mul-add a w b hb) ∙ ap (λ (x : ℕ). x % w) e ∙ mod-mul-add c w d hd
+same_right : (w a b c d : ℕ) → b < w → d < w → pair_number w a b ≡ pair_number w c d → b ≡ d
+same_right w a b c d hb hd e = sym (mod-mul-add a w b hb) ∙ ap (λ (x : ℕ). x % w) e ∙ mod-mul-add c w d hd
+
+-- the pair of the new item stands at the tail
+pub queued_new : {cs ds : List Cell} {tail : ℕ} {c : Cell} {p : ℕ} → Grown cs ds tail c p → (w a b : ℕ) → b < w → c.right < w → pair_number w a b ≡ pair_number w c.left c.right → Queued ds (tail + 1) a b
+queued_new {tail = tail} {c = c} gr w a b hb hc e = record {
+  place = tail;
+  below = omega arith;
+  is_left = gr.new.left ∙ sym (same_left w a b c.left c.right hb hc e);
+  is_right = gr.new.right ∙ sym (same_right w a b c.left c.right hb hc e);
+}
 
 -- what is dealt with after one step more
 past_more : (head done k : ℕ) (s t : Step) → number_of s ≡ done → Past head (done + 1) k t → Past head done k t ⊎ ((k ≡ head) × (t ≡ s))
@@ -56,6 +65,14 @@ past_more head done k s t e (inr h) =
     (λ (same : number_of t ≡ done). inr (h.0, number_apart t s (same ∙ sym e)))
     (λ ne. inl (inr (h.0, omega (arith, h.1))))
     (cases_eq (number_of t) done)
+
+-- the first item holds the pair of the starts
+module _ {m n : Meaning} {W : ℕ → List Step} {cs : List Cell} {tail head done : ℕ} (inv : Inv m n W cs tail head done) where
+  pub first_left : (at cs 0).left ≡ m.start
+  first_left = sym (inv.item 0 inv.some).left_leads ∙ ap (λ (w : List Step). leads m w m.start) inv.root
+
+  pub first_right : (at cs 0).right ≡ n.start
+  first_right = sym (inv.item 0 inv.some).right_leads ∙ ap (λ (w : List Step). leads n w n.start) inv.root
 
 module _ (m n : Meaning) (W : ℕ → List Step) (cs : List Cell) (tail head done : ℕ) (inv : Inv m n W cs tail head done) (s : Step) (fit : Fit m.inputs s) (turn : number_of s ≡ done) (more : head < tail) where
   -- the pair that s leads to is queued already
@@ -75,13 +92,13 @@ module _ (m n : Meaning) (W : ℕ → List Step) (cs : List Cell) (tail head don
     closed = λ k hk t ft p.
         ⊎_elim {C = Follow m n W cs tail k t}
         (λ old. inv.closed k hk t ft old)
-        (λ now_here.
+        (λ (now : (k ≡ head) × (t ≡ s)).
         let here : Follow m n W cs tail head s = record { queued = q; close = inv.near more q.place q.below } in
-        subst (λ (u : Step). Follow m n W cs tail k u) (sym now_here.1) (subst (λ (j : ℕ). Follow m n W cs tail j s) (sym now_here.0) here))
+        rw (now.0, now.1) here)
         (past_more head done k s t turn p);
   }
 
-  module _ (ds : List Cell) (c : Cell) (is_left : c.left ≡ after m s (at cs head).left) (is_right : c.right ≡ after n s (at cs head).right) (is_parent : c.parent ≡ head) (is_step : c.step ≡ number_of s) (left_in : c.left < m.count) (right_in : c.right < n.count) (gr : Grown cs ds tail c (c.left * n.count + c.right)) (few : m.inputs ≤ max_inputs) where
+  module _ (ds : List Cell) (c : Cell) (is_left : c.left ≡ after m s (at cs head).left) (is_right : c.right ≡ after n s (at cs head).right) (is_parent : c.parent ≡ head) (is_step : c.step ≡ number_of s) (left_in : c.left < m.count) (right_in : c.right < n.count) (gr : Grown cs ds tail c (pair_number n.count c.left c.right)) (few : m.inputs ≤ max_inputs) where
     abbrev V : ℕ → List Step
     V = with_string W tail (W head ++ (s ∷ []))
 
@@ -99,14 +116,6 @@ module _ (m n : Meaning) (W : ℕ → List Step) (cs : List Cell) (tail head don
 
     old_same : (k : ℕ) → k < tail → Same (at ds k) (at cs k)
     old_same k h = gr.kept k (omega arith)
-
-    -- below the new tail stands an old item or the new one
-    split : {P : ℕ → Type 0} (k : ℕ) → k < tail + 1 → ((j : ℕ) → j < tail → P j) → P tail → P k
-    split {P} k h old new =
-        ⊎_elim {C = P k}
-        (λ (e : k ≡ tail). subst P (sym e) new)
-        (λ ne. old k (omega (arith, ne)))
-        (cases_eq k tail)
 
     queued_old : (a b : ℕ) → Queued cs tail a b → Queued ds (tail + 1) a b
     queued_old a b q = record {
@@ -126,37 +135,30 @@ module _ (m n : Meaning) (W : ℕ → List Step) (cs : List Cell) (tail head don
           left_leads = leads_append m (W head) (s ∷ []) m.start ∙ ap (after m s) i.left_leads ∙ sym is_left;
           right_leads = leads_append n (W head) (s ∷ []) n.start ∙ ap (after n s) i.right_leads ∙ sym is_right;
         } in
-        subst (λ (w : List Step). Item m n w (at ds tail).left (at ds tail).right) (sym new_string)
-        (subst (λ (a : ℕ). Item m n (W head ++ (s ∷ [])) a (at ds tail).right) (sym gr.new.left)
-        (subst (λ (b : ℕ). Item m n (W head ++ (s ∷ [])) c.left b) (sym gr.new.right) base))
+        rw (new_string, gr.new.left, gr.new.right) base
 
     old_item : (k : ℕ) → k < tail → Item m n (V k) (at ds k).left (at ds k).right
-    old_item k h =
-        subst (λ (w : List Step). Item m n w (at ds k).left (at ds k).right) (sym (old_string k h))
-        (subst (λ (a : ℕ). Item m n (W k) a (at ds k).right) (sym (old_same k h).left)
-        (subst (λ (b : ℕ). Item m n (W k) (at cs k).left b) (sym (old_same k h).right) (inv.item k h)))
+    old_item k h = rw (old_string k h, (old_same k h).left, (old_same k h).right) (inv.item k h)
 
     old_link : (k : ℕ) → 0 < k → k < tail → Link V ds k
     old_link k pos h =
         let l = inv.link k pos h in
-        let e : (at ds k).parent ≡ (at cs k).parent = (old_same k h).parent in
-        let z : (at ds k).step ≡ (at cs k).step = (old_same k h).step in
-        let earlier : (at ds k).parent < k = omega (arith, l.earlier, e) in
+        let same = old_same k h in
+        let earlier : (at cs k).parent < tail = omega (arith, l.earlier) in
         record {
-          earlier = earlier;
-          few = omega (arith, l.few, z);
-          grown = old_string k h ∙ l.grown ∙ ap (λ (j : ℕ). W j ++ (step_of (at cs k).step ∷ [])) (sym e) ∙ ap (λ (x : ℕ). W (at ds k).parent ++ (step_of x ∷ [])) (sym z) ∙ ap (λ (w : List Step). w ++ (step_of (at ds k).step ∷ [])) (sym (old_string (at ds k).parent (omega arith)));
+          earlier = omega (arith, l.earlier, same.parent);
+          few = omega (arith, l.few, same.step);
+          grown = rw (same.parent, same.step, old_string k h, old_string (at cs k).parent earlier) l.grown;
         }
 
     new_link : Link V ds tail
     new_link =
-        let e : (at ds tail).parent ≡ head = gr.new.parent ∙ is_parent in
-        let z : (at ds tail).step ≡ number_of s = gr.new.step ∙ is_step in
-        let y : step_of (at ds tail).step ≡ s = ap step_of z ∙ numbered s in
+        let from : (at ds tail).parent ≡ head = gr.new.parent ∙ is_parent in
+        let by : (at ds tail).step ≡ number_of s = gr.new.step ∙ is_step in
         record {
           earlier = omega arith;
-          few = omega (arith, z, number_within m.inputs s fit);
-          grown = new_string ∙ ap (λ (j : ℕ). W j ++ (s ∷ [])) (sym e) ∙ ap (λ (u : Step). W (at ds tail).parent ++ (u ∷ [])) (sym y) ∙ ap (λ (w : List Step). w ++ (step_of (at ds tail).step ∷ [])) (sym (old_string (at ds tail).parent (omega arith)));
+          few = omega (arith, by, number_within m.inputs s fit);
+          grown = rw (from, by, numbered s, old_string head more) new_string;
         }
 
     -- the follower of an old item
@@ -164,11 +166,9 @@ module _ (m n : Meaning) (W : ℕ → List Step) (cs : List Cell) (tail head don
     unfolding queued_old
     moved k h t f =
         let q = f.queued in
-        let q2 = queued_old _ _ q in
-        let a : after m t (at cs k).left ≡ after m t (at ds k).left = ap (after m t) (sym (old_same k h).left) in
-        let b : after n t (at cs k).right ≡ after n t (at ds k).right = ap (after n t) (sym (old_same k h).right) in
+        let same = old_same k h in
         record {
-          queued = record { place = q.place; below = q2.below; is_left = q2.is_left ∙ a; is_right = q2.is_right ∙ b };
+          queued = rw (same.left, same.right) (queued_old _ _ q);
           close = omega (arith, f.close, old_length q.place q.below, old_length k h);
         }
 
@@ -187,13 +187,12 @@ module _ (m n : Meaning) (W : ℕ → List Step) (cs : List Cell) (tail head don
     still_seen : (q : ℕ) → (at cs q).seen ≡ 1 → (at ds q).seen ≡ 1
     still_seen q was =
         ⊎_elim {C = (at ds q).seen ≡ 1}
-        (λ (e : q ≡ c.left * n.count + c.right). subst (λ (j : ℕ). (at ds j).seen ≡ 1) (sym e) gr.here)
+        (λ (e : q ≡ pair_number n.count c.left c.right). subst (λ (j : ℕ). (at ds j).seen ≡ 1) (sym e) gr.here)
         (λ ne. gr.seen q ne ∙ was)
-        (cases_eq q (c.left * n.count + c.right))
+        (cases_eq q (pair_number n.count c.left c.right))
 
-    number_same : (j : ℕ) (d : Cell) → Same (at ds j) d → (at ds (d.left * n.count + d.right)).seen ≡ 1 → (at ds ((at ds j).left * n.count + (at ds j).right)).seen ≡ 1
-    number_same j d same seen =
-        subst (λ (a : ℕ). (at ds (a * n.count + (at ds j).right)).seen ≡ 1) (sym same.left) (subst (λ (b : ℕ). (at ds (d.left * n.count + b)).seen ≡ 1) (sym same.right) seen)
+    number_same : (j : ℕ) (d : Cell) → Same (at ds j) d → (at ds (pair_number n.count d.left d.right)).seen ≡ 1 → (at ds (pair_number n.count (at ds j).left (at ds j).right)).seen ≡ 1
+    number_same j d same seen = rw (same.left, same.right) seen
 
     pub keeps_new : Inv m n V ds (tail + 1) head (done + 1)
     keeps_new = record {
@@ -201,30 +200,24 @@ module _ (m n : Meaning) (W : ℕ → List Step) (cs : List Cell) (tail head don
       some = omega arith;
       upto = omega arith;
       root = old_string 0 inv.some ∙ inv.root;
-      item = λ k h. split {P = λ (j : ℕ). Item m n (V j) (at ds j).left (at ds j).right} k h old_item new_item;
-      link = λ k pos h. split {P = λ (j : ℕ). 0 < j → Link V ds j} k h (λ j hj p. old_link j p hj) (λ _. new_link) pos;
+      item = below_more (λ (j : ℕ). Item m n (V j) (at ds j).left (at ds j).right) tail old_item new_item;
+      link = λ k pos h. below_more (λ (j : ℕ). 0 < j → Link V ds j) tail (λ j hj p. old_link j p hj) (λ _. new_link) k h pos;
       mono = λ j k le h.
-          split {P = λ (i : ℕ). j ≤ i → length (V j) ≤ length (V i)} k h
+          below_more (λ (i : ℕ). j ≤ i → length (V j) ≤ length (V i)) tail
           (λ i hi l. let jt : j < tail = omega arith in omega (arith, inv.mono j i l hi, old_length i hi, old_length j jt))
-          (λ l. split {P = λ (i : ℕ). length (V i) ≤ length (V tail)} j (omega arith) (λ i hi. omega (arith, inv.near more i hi, old_length i hi, new_length)) (omega arith))
-          le;
-      near = λ _ k h.
-          split {P = λ (i : ℕ). length (V i) ≤ length (V head) + 1} k h
+          (λ l. below_more (λ (i : ℕ). length (V i) ≤ length (V tail)) tail (λ i hi. omega (arith, inv.near more i hi, old_length i hi, new_length)) (omega arith) j (omega arith))
+          k h le;
+      near = λ _.
+          below_more (λ (i : ℕ). length (V i) ≤ length (V head) + 1) tail
           (λ i hi. omega (arith, inv.near more i hi, old_length i hi, old_length head more))
           (omega (arith, new_length, old_length head more));
       known = λ a b ha hb seen.
           ⊎_elim {C = Queued ds (tail + 1) a b}
-          (λ (e : a * n.count + b ≡ c.left * n.count + c.right).
-          record {
-            place = tail;
-            below = omega arith;
-            is_left = gr.new.left ∙ sym (row_same n.count a b c.left c.right hb right_in e);
-            is_right = gr.new.right ∙ sym (column_same n.count a b c.left c.right hb right_in e);
-          })
-          (λ ne. queued_old a b (inv.known a b ha hb (sym (gr.seen (a * n.count + b) ne) ∙ seen)))
-          (cases_eq (a * n.count + b) (c.left * n.count + c.right));
-      all_seen = λ k h.
-          split {P = λ (j : ℕ). (at ds ((at ds j).left * n.count + (at ds j).right)).seen ≡ 1} k h
+          (queued_new gr n.count a b hb right_in)
+          (λ ne. queued_old a b (inv.known a b ha hb (sym (gr.seen (pair_number n.count a b) ne) ∙ seen)))
+          (cases_eq (pair_number n.count a b) (pair_number n.count c.left c.right));
+      all_seen =
+          below_more (λ (j : ℕ). (at ds (pair_number n.count (at ds j).left (at ds j).right)).seen ≡ 1) tail
           (λ j hj. number_same j (at cs j) (old_same j hj) (still_seen _ (inv.all_seen j hj)))
           (number_same tail c gr.new gr.here);
       agree = λ k h i hi.
@@ -233,6 +226,6 @@ module _ (m n : Meaning) (W : ℕ → List Step) (cs : List Cell) (tail head don
       closed = λ k hk t ft p.
           ⊎_elim {C = Follow m n V ds (tail + 1) k t}
           (λ old. let kt : k < tail = ⊎_elim (λ (l : k < head). omega arith) (λ (l : (k ≡ head) × (number_of t < done)). omega (arith, l.0)) old in moved k kt t (inv.closed k kt t ft old))
-          (λ now_here. subst (λ (u : Step). Follow m n V ds (tail + 1) k u) (sym now_here.1) (subst (λ (j : ℕ). Follow m n V ds (tail + 1) j s) (sym now_here.0) new_follow))
+          (λ (now : (k ≡ head) × (t ≡ s)). rw (now.0, now.1) new_follow)
           (past_more head done k s t turn p);
     }

@@ -1,17 +1,15 @@
 -- From where the search stopped to what the verdict says in timed words.
-use Rattle.std.proofs.Common.{◌≡◌, ℕ, ◌+◌, ◌-◌, ◌<◌, ◌≤◌, List, [], ◌∷◌, ◌++◌, length, take, drop, sym, refl, ap, ◌∙◌, subst, arith}
+use Rattle.std.proofs.Common.{◌≡◌, ℕ, ◌+◌, ◌-◌, ◌<◌, ◌≤◌, List, [], ◌∷◌, ◌++◌, length, take, drop, sym, refl, ap, ◌∙◌, arith}
 use Rattle.table.specs.Meaning.{Meaning}
-use Rattle.table.specs.Word.{steps, Tells}
+use Rattle.table.specs.Word.{steps}
 use Rattle.table.specs.declared.word.Entry.{Entry}
-use Rattle.table.specs.declared.word.Step.{Step}
 use Rattle.table.specs.declared.word.Step.TheVariants.{Take}
 use Rattle.table.specs.Steps.{string}
 use Rattle.table.proofs.Strings.{string_over, string_within, string_length, string_answers, strings_alike, length_push}
-use Rattle.compare.specs.Compare.{Telling, Decided}
+use Rattle.compare.specs.Compare.{Decided}
 use Rattle.compare.specs.Search.{Searched, Told}
 use Rattle.compare.specs.Spell.{takes, Chain, Chained, Counted, Tallied, Spelled}
 use Rattle.compare.specs.declared.cell.Cell.{Cell}
-use Rattle.compare.specs.declared.compare.Verdict.{Verdict}
 use Rattle.compare.specs.declared.compare.Verdict.TheVariants.{Alike as FoundAlike, Different}
 use Rattle.compare.proofs.Grown.{tail_room}
 use Rattle.compare.proofs.Findings.{all_same, Shortest, shortest}
@@ -20,7 +18,7 @@ use Rattle.compare.proofs.Walks.{chain_short}
 pub searched_alike : (m n : Meaning) (cs : List Cell) → m.inputs ≡ n.inputs → Searched m n cs → (word : List Entry) → Decided m n FoundAlike word word
 searched_alike m n cs inputs done word = (strings_alike m n inputs (all_same m n done.holds.strings cs done.tail done.holds.inv), refl)
 
-module _ (m n : Meaning) (cs : List Cell) (place input : ℕ) (told : Told m n cs place input) where
+module _ {m n : Meaning} {cs : List Cell} {place input : ℕ} (told : Told m n cs place input) where
   pub told_inside : place < length cs
   told_inside = omega (arith, told.below, tail_room cs told.tail told.inv.count)
 
@@ -35,9 +33,12 @@ module _ (m n : Meaning) (cs : List Cell) (place input : ℕ) (told : Told m n c
       let z : takes (told.strings 0) ≡ 0 = ap takes told.inv.root in
       record { strings = told.strings; chain = chain; count_is = omega (arith, tallied told.strings chain) }
 
-  module _ (word : List Entry) (spelled : Spelled cs place input 0 word) where
+  module _ (entries : ℕ) (after : List Entry) (spelled : Spelled cs place input 0 (take entries after)) where
+    abbrev word : List Entry
+    word = take entries after
+
     string_is : string 2 word ≡ told.strings place ++ (Take input ∷ [])
-    string_is = ap (λ (w : List Step). w ++ string 2 word) (sym told.inv.root) ∙ spelled told.strings chain
+    string_is = rw told.inv.root at (spelled told.strings chain)
 
     -- the word has no more steps than the queue has items up to its end
     pub told_short : steps 2 word ≤ place + 1
@@ -48,17 +49,17 @@ module _ (m n : Meaning) (cs : List Cell) (place input : ℕ) (told : Told m n c
     least : Shortest m n (string 2 word)
     least = shortest m n cs place input told (string 2 word) string_is
 
-    telling : (entries : ℕ) (before after : List Entry) → word ≡ take entries after → entries ≤ length after → length after ≡ length before → drop entries after ≡ drop entries before → Telling m n (steps 2 word) entries before after
-    telling entries before after is fits long rest = record {
+    pub told_different : {before : List Entry} → entries ≤ length after → length after ≡ length before → drop entries after ≡ drop entries before → Decided m n (Different (steps 2 word) entries) before after
+    told_different fits long rest = record {
       fits = fits;
       long = long;
       rest = rest;
-      tells = subst (λ (w : List Entry). Tells m n 2 w) is (record {
+      tells = record {
         grain = omega arith;
         inputs = string_within m.inputs 2 word least.over;
         other = λ same. least.tells (string_answers m 2 word m.start ∙ same ∙ sym (string_answers n 2 word n.start));
-      });
-      counted = ap (steps 2) is;
+      };
+      counted = refl;
       fewest = λ q w t.
           omega (
             arith,
@@ -67,10 +68,3 @@ module _ (m n : Meaning) (cs : List Cell) (place input : ℕ) (told : Told m n c
             least.least (string q w) (string_over m.inputs q w t.inputs) (λ same. t.other (sym (string_answers m q w m.start) ∙ same ∙ string_answers n q w n.start)),
           );
     }
-
-  pub told_different : (entries : ℕ) (before after : List Entry) → Spelled cs place input 0 (take entries after) → entries ≤ length after → length after ≡ length before → drop entries after ≡ drop entries before → (v : Verdict) → v ≡ Different (steps 2 (take entries after)) entries → Decided m n v before after
-  told_different entries before after spelled fits long rest v is =
-      subst (λ (x : Verdict). Decided m n x before after) (sym is) (telling (take entries after) spelled entries before after refl fits long rest)
-
-pub differs : (v : Verdict) (count entries : ℕ) → v ≡ Different count entries → v ≡ FoundAlike → ⊥
-differs v count entries p q = let z : ◌≡◌ {A = ℕ} 0 1 = cc in omega arith

@@ -1,6 +1,8 @@
 -- One turn of the walk from an item back to the first.
-use Rattle.std.proofs.Common.{◌≡◌, ℕ, zero, suc, ◌+◌, ◌-◌, ◌<◌, ◌≤◌, List, [], ◌∷◌, ◌++◌, length, take, drop, set, sym, refl, ap, ◌∙◌, subst, ⊎_elim, append_assoc, add-one, arith, length-set, drop-cons, get_or-set_same}
+use Rattle.std.proofs.Common.{◌≡◌, ℕ, zero, suc, ◌+◌, ◌-◌, ◌<◌, ◌≤◌, List, [], ◌∷◌, ◌++◌, length, take, drop, set, refl, ap, ◌∙◌, ⊎_elim, append_assoc, arith, length-set}
 use Rattle.std.proofs.lemmas.Bool.{cases_eq}
+use Rattle.std.proofs.lemmas.List.{drop-set, drop-set-lt}
+use Rattle.std.proofs.lemmas.List.Sums.{sum_by-append}
 use Rattle.table.specs.Word.{ticks}
 use Rattle.table.specs.declared.word.Entry.{Entry}
 use Rattle.table.specs.declared.word.Step.{Step}
@@ -14,8 +16,7 @@ use Rattle.compare.specs.Spell.{one_take, takes, Chain, Chained, Counted, Tallie
 use Rattle.compare.specs.declared.cell.Cell.{Cell}
 
 takes_push : (w : List Step) (s : Step) → takes (w ++ (s ∷ [])) ≡ takes w + one_take s
-takes_push [] s = omega arith
-takes_push (x ∷ w) s = omega (arith, takes_push w s)
+takes_push w s = omega (arith, sum_by-append one_take w (s ∷ []))
 
 -- a string is no longer than its item's place in the queue
 pub chain_short : (W : ℕ → List Step) (cs : List Cell) (place : ℕ) → Chain W cs place → (bound k : ℕ) → k ≤ bound → k ≤ place → length (W k) ≤ k
@@ -34,13 +35,13 @@ chain_short W cs place chain (suc bound) k low up =
 
 module _ (cs : List Cell) (place item : ℕ) (pos : 0 < item) (up : item ≤ place) where
   takes_back : (W : ℕ → List Step) → Chain W cs place → takes (W item) ≡ takes (W (at cs item).parent) + one_take (step_of (at cs item).step)
-  takes_back W chain = ap takes (chain.link item pos up).grown ∙ takes_push _ (step_of (at cs item).step)
+  takes_back W chain = ap takes (chain.link item pos up).grown ∙ takes_push (W (at cs item).parent) (step_of (at cs item).step)
 
   pub tallied_more : (entries e : ℕ) → e ≡ one_take (step_of (at cs item).step) → Tallied cs place item entries → Tallied cs place (at cs item).parent (entries + e)
   tallied_more entries e is so W chain = omega (arith, takes_back W chain, so W chain)
 
-  counted_more : (count : ℕ) → Counted cs place item count → (d : ℕ) → d ≡ one_take (step_of (at cs item).step) → Counted cs place (at cs item).parent (count - d)
-  counted_more count cd d is = record { strings = cd.strings; chain = cd.chain; count_is = omega (arith, takes_back cd.strings cd.chain, cd.count_is) }
+  counted_more : (count rest : ℕ) → Counted cs place item count → rest + one_take (step_of (at cs item).step) ≡ count → Counted cs place (at cs item).parent rest
+  counted_more count rest cd is = record { strings = cd.strings; chain = cd.chain; count_is = omega (arith, takes_back cd.strings cd.chain, cd.count_is) }
 
   pub earlier : Chained cs place → (at cs item).parent < item
   earlier ch = (ch.chain.link item pos up).earlier
@@ -56,7 +57,7 @@ module _ (cs : List Cell) (place item : ℕ) (pos : 0 < item) (up : item ≤ pla
   before input es fs e so W chain =
       let l = chain.link item pos up in
       let p = W (at cs item).parent in
-      ap (λ (w : List Step). p ++ w) (sym e) ∙ sym (append_assoc p (step_of (at cs item).step ∷ []) (string 2 es)) ∙ ap (λ (w : List Step). w ++ string 2 es) (sym l.grown) ∙ so W chain
+      rw (← e, ← append_assoc p (step_of (at cs item).step ∷ []) (string 2 es), ← l.grown) (so W chain)
 
   -- one half day more is one tick more
   half_day_more : (wait : ℕ) (w : List Step) → Tick ∷ waiting (ticks 2 wait) w ≡ waiting (ticks 2 (wait + 1)) w
@@ -66,98 +67,72 @@ module _ (cs : List Cell) (place item : ℕ) (pos : 0 < item) (up : item ≤ pla
 
   spelled_tick : (input wait next : ℕ) (es : List Entry) → step_of (at cs item).step ≡ Tick → Spelled cs place input item (entry wait next ∷ es) → Spelled cs place input (at cs item).parent (entry (wait + 1) next ∷ es)
   spelled_tick input wait next es is so =
-      before input (entry wait next ∷ es) (entry (wait + 1) next ∷ es)
-      (ap (λ (s : Step). s ∷ string 2 (entry wait next ∷ es)) is ∙ half_day_more wait (Take next ∷ string 2 es))
-      so
+      before input (entry wait next ∷ es) (entry (wait + 1) next ∷ es) (rw is (half_day_more wait (Take next ∷ string 2 es))) so
 
-  spelled_take : (input i : ℕ) (es fs : List Entry) → step_of (at cs item).step ≡ Take i → fs ≡ es → Spelled cs place input item es → Spelled cs place input (at cs item).parent (entry 0 i ∷ fs)
-  spelled_take input i es fs is same so =
-      before input es (entry 0 i ∷ fs)
-      (ap (λ (s : Step). s ∷ string 2 es) is ∙ ap (λ (gs : List Entry). Take i ∷ string 2 gs) (sym same))
-      so
-
-drop_set : (es : List Entry) (i : ℕ) (e : Entry) → drop (suc i) (set es i e) ≡ drop (suc i) es
-drop_set [] i e = refl
-drop_set (x ∷ es) zero e = refl
-drop_set (x ∷ es) (suc i) e = drop_set es i e
-
-rest_kept : (es : List Entry) (i j : ℕ) (e : Entry) → i < j → drop j (set es i e) ≡ drop j es
-rest_kept [] i j e h = refl
-rest_kept (x ∷ es) zero zero e h = absurd (omega arith)
-rest_kept (x ∷ es) zero (suc j) e h = refl
-rest_kept (x ∷ es) (suc i) zero e h = absurd (omega arith)
-rest_kept (x ∷ es) (suc i) (suc j) e h = rest_kept es i j e (omega arith)
+  spelled_take : (input i : ℕ) (es : List Entry) → step_of (at cs item).step ≡ Take i → Spelled cs place input item es → Spelled cs place input (at cs item).parent (entry 0 i ∷ es)
+  spelled_take input i es is so = before input es (entry 0 i ∷ es) (rw is refl) so
 
 -- a write in front of a part puts its entry before the part
 from_set : (es : List Entry) (i high : ℕ) (e : Entry) → i < high → i < length es → from (set es i e) i high ≡ e ∷ from es (i + 1) high
 from_set es i high e h room =
-    let room2 : i < length (set es i e) = simp length-set (omega arith) in
-    let a : drop i (set es i e) ≡ e ∷ drop (suc i) es = drop-cons (set es i e) i e room2 ∙ ap (λ (x : Entry). x ∷ drop (suc i) (set es i e)) (get_or-set_same es i e e room) ∙ ap (λ (xs : List Entry). e ∷ xs) (drop_set es i e) in
-    let n : high - i ≡ suc (high - (i + 1)) = omega arith in
-    ap (λ (k : ℕ). take k (drop i (set es i e))) n ∙ ap (λ (xs : List Entry). take (suc (high - (i + 1))) xs) a ∙ ap (λ (k : ℕ). e ∷ take (high - (i + 1)) (drop k es)) (sym (add-one i))
+    let more : high - i ≡ suc (high - (i + 1)) = omega arith in
+    rw (more, drop-set es i e room) refl
 
-walk_as : (cs : List Cell) (place input entries : ℕ) (old : List Entry) (item slot wait next : ℕ) (es : List Entry) (slot' wait' next' : ℕ) (es' : List Entry) → slot' ≡ slot → wait' ≡ wait → next' ≡ next → es' ≡ es → Walk cs place input entries old item slot wait next es → Walk cs place input entries old item slot' wait' next' es'
-walk_as cs place input entries old item slot wait next es slot' wait' next' es' a b c d walk =
-    subst (λ (x : ℕ). Walk cs place input entries old item x wait' next' es') (sym a)
-    (subst (λ (x : ℕ). Walk cs place input entries old item slot x next' es') (sym b)
-    (subst (λ (x : ℕ). Walk cs place input entries old item slot wait x es') (sym c)
-    (subst (λ (x : List Entry). Walk cs place input entries old item slot wait next x) (sym d) walk)))
+module _ {cs : List Cell} {place input entries : ℕ} {old : List Entry} {item slot wait next : ℕ} {es : List Entry} (walk : Walk cs place input entries old item slot wait next es) where
+  pub walk_chained : Chained cs place
+  walk_chained = record { strings = walk.counted.strings; chain = walk.counted.chain }
 
-pub walk_chained : (cs : List Cell) (place item slot : ℕ) → Counted cs place item slot → Chained cs place
-walk_chained cs place item slot cd = record { strings = cd.strings; chain = cd.chain }
+  inside : entries ≤ length old → slot < length es
+  inside room = omega (arith, walk.low, walk.long)
 
-module _ (cs : List Cell) (place input entries : ℕ) (old : List Entry) (item slot wait next : ℕ) (es : List Entry) (walk : Walk cs place input entries old item slot wait next es) (pos : 0 < item) (room : entries ≤ length old) (slot' wait' next' : ℕ) (es' : List Entry) where
-  back : (at cs item).parent < item
-  back = earlier cs place item pos walk.up (walk_chained cs place item slot walk.counted)
+  module _ (pos : 0 < item) where
+    back : (at cs item).parent < item
+    back = earlier cs place item pos walk.up walk_chained
 
-  pub walk_tick : step_of (at cs item).step ≡ Tick → slot' ≡ slot → wait' ≡ wait + 1 → next' ≡ next → es' ≡ es → Walk cs place input entries old (at cs item).parent slot' wait' next' es'
-  walk_tick is a b c d =
-      let none : 0 ≡ one_take (step_of (at cs item).step) = sym (ap one_take is) in
-      let cd : Counted cs place (at cs item).parent (slot - 0) = counted_more cs place item pos walk.up slot walk.counted 0 none in
-      let same : slot - 0 ≡ slot = omega arith in
-      walk_as cs place input entries old (at cs item).parent slot (wait + 1) next es slot' wait' next' es' a b c d (record {
-        up = omega (arith, back, walk.up);
-        low = walk.low;
-        short = omega (arith, back, walk.short);
-        long = walk.long;
-        counted = subst (λ (x : ℕ). Counted cs place (at cs item).parent x) same cd;
-        spelled = spelled_tick cs place item pos walk.up input wait next (from es (slot + 1) entries) is walk.spelled;
-        rest = walk.rest;
-      })
+    pub walk_tick : step_of (at cs item).step ≡ Tick → Walk cs place input entries old (at cs item).parent slot (wait + 1) next es
+    walk_tick is = record {
+      up = omega (arith, back, walk.up);
+      low = walk.low;
+      short = omega (arith, back, walk.short);
+      long = walk.long;
+      counted = counted_more cs place item pos walk.up slot slot walk.counted (omega (arith, ap one_take is));
+      spelled = spelled_tick cs place item pos walk.up input wait next (from es (slot + 1) entries) is walk.spelled;
+      rest = walk.rest;
+    }
 
-  pub walk_take : (i : ℕ) → step_of (at cs item).step ≡ Take i → slot' ≡ slot - 1 → wait' ≡ 0 → next' ≡ i → es' ≡ set es slot (entry wait next) → Walk cs place input entries old (at cs item).parent slot' wait' next' es'
-  walk_take i is a b c d =
-      let one : 1 ≡ one_take (step_of (at cs item).step) = sym (ap one_take is) in
-      let left : 0 < slot = some_left cs place item pos walk.up slot i walk.counted is in
-      let shift : slot - 1 + 1 ≡ slot = omega arith in
-      let inside : slot < length es = omega (arith, walk.low, walk.long) in
-      let part : from (set es slot (entry wait next)) (slot - 1 + 1) entries ≡ entry wait next ∷ from es (slot + 1) entries =
-      ap (λ (k : ℕ). from (set es slot (entry wait next)) k entries) shift ∙ from_set es slot entries (entry wait next) walk.low inside in
-      walk_as cs place input entries old (at cs item).parent (slot - 1) 0 i (set es slot (entry wait next)) slot' wait' next' es' a b c d (record {
-        up = omega (arith, back, walk.up);
-        low = omega (arith, walk.low);
-        short = omega (arith, back, walk.up);
-        long = length-set es slot (entry wait next) ∙ walk.long;
-        counted = counted_more cs place item pos walk.up slot walk.counted 1 one;
-        spelled = spelled_take cs place item pos walk.up input i (entry wait next ∷ from es (slot + 1) entries) (from (set es slot (entry wait next)) (slot - 1 + 1) entries) is part walk.spelled;
-        rest = rest_kept es slot entries (entry wait next) walk.low ∙ walk.rest;
-      })
+    -- a take has to come before this one
+    pub walk_some : {i : ℕ} → step_of (at cs item).step ≡ Take i → 0 < slot
+    walk_some {i} is = some_left cs place item pos walk.up slot i walk.counted is
 
--- the walk at its end, with the first entry written
-module _ (cs : List Cell) (place input entries : ℕ) (old : List Entry) (item slot wait next : ℕ) (es : List Entry) (walk : Walk cs place input entries old item slot wait next es) (over : item ≤ 0) (room : entries ≤ length old) where
-  at_first : slot ≡ 0
-  at_first =
-      let z : item ≡ 0 = omega arith in
-      let t : takes (walk.counted.strings item) ≡ 0 = ap (λ (k : ℕ). takes (walk.counted.strings k)) z ∙ ap takes walk.counted.chain.root in
-      omega (arith, walk.counted.count_is)
+    pub walk_take : {i : ℕ} → entries ≤ length old → step_of (at cs item).step ≡ Take i → Walk cs place input entries old (at cs item).parent (slot - 1) 0 i (set es slot (entry wait next))
+    walk_take {i} room is =
+        let shift : slot - 1 + 1 ≡ slot = omega (arith, walk_some is) in
+        let part : from (set es slot (entry wait next)) (slot - 1 + 1) entries ≡ entry wait next ∷ from es (slot + 1) entries =
+        rw shift (from_set es slot entries (entry wait next) walk.low (inside room)) in
+        record {
+          up = omega (arith, back, walk.up);
+          low = omega (arith, walk.low);
+          short = omega (arith, back, walk.up);
+          long = length-set es slot (entry wait next) ∙ walk.long;
+          counted = counted_more cs place item pos walk.up slot (slot - 1) walk.counted (omega (arith, ap one_take is, walk_some is));
+          spelled = rw part (spelled_take cs place item pos walk.up input i (entry wait next ∷ from es (slot + 1) entries) is walk.spelled);
+          rest = drop-set-lt entries es slot (entry wait next) walk.low ∙ walk.rest;
+        }
 
-  pub walked : Spelled cs place input 0 (take entries (set es slot (entry wait next)))
-  walked W chain =
-      let z : item ≡ 0 = omega arith in
-      let inside : slot < length es = omega (arith, walk.low, walk.long) in
-      let whole : take entries (set es slot (entry wait next)) ≡ entry wait next ∷ from es (slot + 1) entries =
-      ap (λ (k : ℕ). take k (set es slot (entry wait next))) (let e : entries ≡ entries - 0 = omega arith in e) ∙ ap (λ (k : ℕ). from (set es slot (entry wait next)) k entries) (sym at_first) ∙ from_set es slot entries (entry wait next) walk.low inside in
-      ap (λ (fs : List Entry). W 0 ++ string 2 fs) whole ∙ ap (λ (k : ℕ). W k ++ string 2 (entry wait next ∷ from es (slot + 1) entries)) (sym z) ∙ walk.spelled W chain
+  -- the walk at its end, with the first entry written
+  module _ (over : item ≤ 0) where
+    at_first : slot ≡ 0
+    at_first =
+        let z : item ≡ 0 = omega arith in
+        let t : takes (walk.counted.strings item) ≡ 0 = ap (λ (k : ℕ). takes (walk.counted.strings k)) z ∙ ap takes walk.counted.chain.root in
+        omega (arith, walk.counted.count_is)
 
-  pub walked_rest : drop entries (set es slot (entry wait next)) ≡ drop entries old
-  walked_rest = rest_kept es slot entries (entry wait next) walk.low ∙ walk.rest
+    pub walked : entries ≤ length old → Spelled cs place input 0 (take entries (set es slot (entry wait next)))
+    walked room W chain =
+        let z : item ≡ 0 = omega arith in
+        let whole : take entries (set es slot (entry wait next)) ≡ entry wait next ∷ from es (slot + 1) entries =
+        grind (arith, at_first, from_set es slot entries (entry wait next) walk.low (inside room)) in
+        rw whole (rw z at (walk.spelled W chain))
+
+    pub walked_rest : drop entries (set es slot (entry wait next)) ≡ drop entries old
+    walked_rest = drop-set-lt entries es slot (entry wait next) walk.low ∙ walk.rest

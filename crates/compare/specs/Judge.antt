@@ -11,12 +11,10 @@ use Rattle.table.specs.declared.word.Entry.{Entry}
 use Rattle.table.specs.BookMachine.{book_meaning}
 use Rattle.table.specs.Read.{book_reading}
 use Rattle.compare.specs.declared.compare.Verdict.{Verdict}
-use Rattle.compare.specs.declared.compare.Verdict.TheVariants as verdict
 use Rattle.compare.specs.declared.fault.CompareFault.{CompareFault}
 use Rattle.compare.specs.declared.fault.CompareFault.TheVariants.{Table}
-use Rattle.compare.specs.declared.judge.Refusal.{Refusal}
-use Rattle.compare.specs.declared.outcome.Outcome.{Outcome}
-use Rattle.compare.specs.declared.outcome.Outcome.TheVariants.{Alike, Different, Refused}
+use Rattle.compare.specs.declared.outcome.Finding.{Finding}
+use Rattle.compare.specs.declared.outcome.Refusal.{Refusal}
 use Rattle.compare.specs.Compare.{Compared}
 use Rattle.compare.specs.Report.{report, reported}
 
@@ -40,31 +38,29 @@ with_first t (Err f) = Err (refusing 1 f)
 abbrev pub books_of : List ℕ → Result (Draft × Draft) Refusal
 books_of t = with_first t (book_reading t 0)
 
-abbrev pub Read : Result (Draft × Draft) Refusal → Result (Book × Book) Refusal → Type 0
-Read (Ok ds) (Ok bs) = (bs.0.draft ≡ ds.0) × (bs.1.draft ≡ ds.1)
-Read (Ok ds) (Err r) = ⊥
-Read (Err q) (Ok bs) = ⊥
-Read (Err q) (Err r) = r ≡ q
+-- the drafts that books hold
+abbrev pub drafts_of : Result (Book × Book) Refusal → Result (Draft × Draft) Refusal
+drafts_of (Ok bs) = Ok (bs.0.draft, bs.1.draft)
+drafts_of (Err r) = Err r
 
 -- what there is to report of the comparison of two books with so many states
-abbrev pub outcome_of : ℕ → ℕ → Result Verdict CompareFault → Outcome
-outcome_of a b (Ok verdict.Alike) = Alike a b
-outcome_of a b (Ok (verdict.Different steps entries)) = Different a b steps entries
-outcome_of a b (Err f) = Refused 2 f
+abbrev pub outcome_of : ℕ → ℕ → Result Verdict CompareFault → Result Finding Refusal
+outcome_of a b (Ok v) = Ok (record { left = a; right = b; verdict = v })
+outcome_of a b (Err f) = Err (record { book = 2; fault = f })
 
 -- o is what there is to report of what the comparison of two books answered
-pub record Finding (d e : Draft) (cells : ℕ) (before after : List Entry) (o : Outcome) : Type 0 where
+pub record FindsBetween (d e : Draft) (cells : ℕ) (before after : List Entry) (o : Result Finding Refusal) : Type 0 where
   pub answer : Result Verdict CompareFault
   pub compared : Compared (book_meaning d) (book_meaning e) cells answer before after
   pub outcome : o ≡ outcome_of (book_meaning d).count (book_meaning e).count answer
 
 -- the outcome of an input, with the word buffer before and after
-abbrev pub Finds : Result (Draft × Draft) Refusal → ℕ → List Entry → List Entry → Outcome → Type 0
-Finds (Ok ds) cells before after o = Finding ds.0 ds.1 cells before after o
-Finds (Err q) cells before after o = (after ≡ before) × (o ≡ Refused q.book q.fault)
+abbrev pub Finds : Result (Draft × Draft) Refusal → ℕ → List Entry → List Entry → Result Finding Refusal → Type 0
+Finds (Ok ds) cells before after o = FindsBetween ds.0 ds.1 cells before after o
+Finds (Err q) cells before after o = (after ≡ before) × (o ≡ Err q)
 
 pub record Judged (books : Result (Draft × Draft) Refusal) (cells : ℕ) (before after : List Entry) (buffer now : List ℕ) (r : Result ℕ CompareFault) : Type 0 where
-  pub outcome : Outcome
+  pub outcome : Result Finding Refusal
   pub finds : Finds books cells before after outcome
   pub answers : r ≡ reported (report outcome after) buffer
   pub fills : now ≡ filled (report outcome after) buffer

@@ -1,5 +1,6 @@
 pub mod Cell
 pub mod Search
+pub mod Machines
 pub mod Spell
 pub mod Compare
 pub mod Partner

@@ -1,14 +1,14 @@
 -- The breadth-first search over pairs of states: what the cells hold, and what the search keeps true of them.
-use Rattle.std.specs.Prelude.{◌≡◌, ℕ, ◌+◌, ◌*◌, ◌<◌, ◌≤◌, Bool, ◌≢◌, ◌⊎◌, List, [], ◌∷◌, ◌++◌, length, count_by, ◌==◌, slice_index_or, slice_set}
+use Rattle.std.specs.Prelude.{◌≡◌, ℕ, ◌+◌, ◌*◌, ◌<◌, ◌≤◌, Bool, ◌≢◌, ◌⊎◌, List, [], ◌∷◌, ◌++◌, length, count_by, ◌==◌, slice_index_or, slice_set, Ok, Err, Result}
 use Rattle.text.specs.Limits.{max_inputs}
 use Rattle.table.specs.Limits.{max_machine_states}
 use Rattle.table.specs.Meaning.{Meaning, output}
 use Rattle.table.specs.Steps.{Fit, Over, after, leads}
 use Rattle.table.specs.declared.word.Step.{Step}
-use Rattle.compare.specs.Cell.{blank, number_of, step_of}
+use Rattle.table.specs.declared.word.Step.TheVariants.{Take}
+use Rattle.compare.specs.Cell.{blank, AllBlank, number_of, step_of}
 use Rattle.compare.specs.declared.cell.Cell.{Cell}
-use Rattle.compare.specs.declared.search.Visit.{Visit}
-use Rattle.compare.specs.declared.search.Visit.TheVariants.{Agree, Differ}
+use Rattle.compare.specs.declared.search.Found.{Found}
 
 abbrev pub at : List Cell → ℕ → Cell
 at cs k = slice_index_or cs k blank
@@ -22,20 +22,42 @@ marks cs = count_by is_seen cs
 
 -- an item written at place k, the mark there kept
 abbrev pub placed : List Cell → ℕ → Cell → List Cell
-placed cs k c = slice_set cs k (record { left = c.left; right = c.right; parent = c.parent; step = c.step; seen = (at cs k).seen })
+placed cs k c = slice_set cs k (record c { seen = (at cs k).seen })
 
 -- the mark set at the number p
 abbrev pub marked : List Cell → ℕ → List Cell
-marked cs p = slice_set cs p (record { left = (at cs p).left; right = (at cs p).right; parent = (at cs p).parent; step = (at cs p).step; seen = 1 })
+marked cs p = slice_set cs p (record (at cs p) { seen = 1 })
 
--- the number of the pair that an item holds, with `width` states on the right
-abbrev pub pair_number : ℕ → Cell → ℕ
-pair_number width c = c.left * width + c.right
+-- the cells are blank, and as many as there are pairs of states
+pub record Fresh (m n : Meaning) (cs : List Cell) : Type 0 where
+  pub room : length cs ≡ m.count * n.count
+  pub blank : AllBlank cs
+
+-- the number of a pair of states, with `width` states on the right
+abbrev pub pair_number : ℕ → ℕ → ℕ → ℕ
+pair_number width a b = a * width + b
 
 -- what queueing an item does: nothing where its pair is seen, else it stands at the tail and its pair is seen
 pub record Queueing (width : ℕ) (cs ds : List Cell) (tail : ℕ) (c : Cell) (end : ℕ) : Type 0 where
-  pub known : (at cs (pair_number width c)).seen ≡ 1 → (ds ≡ cs) × (end ≡ tail)
-  pub fresh : (at cs (pair_number width c)).seen ≢ 1 → (ds ≡ marked (placed cs tail c) (pair_number width c)) × (end ≡ tail + 1)
+  pub known : (at cs (pair_number width c.left c.right)).seen ≡ 1 → (ds ≡ cs) × (end ≡ tail)
+  pub fresh : (at cs (pair_number width c.left c.right)).seen ≢ 1 → (ds ≡ marked (placed cs tail c) (pair_number width c.left c.right)) × (end ≡ tail + 1)
+
+-- the item holds a state of each machine
+pub record Inside (m n : Meaning) (c : Cell) : Type 0 where
+  pub left_in : c.left < m.count
+  pub right_in : c.right < n.count
+
+-- the item d holds the pair that the step s leads to from the item c at `place`
+pub record NextItem (m n : Meaning) (c : Cell) (place : ℕ) (s : Step) (d : Cell) : Type 0 where
+  pub is_left : d.left ≡ after m s c.left
+  pub is_right : d.right ≡ after n s c.right
+  pub is_parent : d.parent ≡ place
+  pub is_step : d.step ≡ number_of s
+
+-- what a take of an input from the item c at `place` answers: the next item where the outputs agree, else where they differ
+abbrev pub Taken : Meaning → Meaning → Cell → ℕ → ℕ → Result Cell Found → Type 0
+Taken m n c place input (Ok d) = NextItem m n c place (Take input) d × (output m c.left input ≡ output n c.right input)
+Taken m n c place input (Err f) = (f.place ≡ place) × (f.input ≡ input) × (output m c.left input ≢ output n c.right input)
 
 -- the two states draw the same output at every input
 abbrev pub Agreeing : Meaning → Meaning → ℕ → ℕ → Type 0
@@ -82,8 +104,8 @@ pub record Inv (m n : Meaning) (W : ℕ → List Step) (cs : List Cell) (tail he
   pub link : (k : ℕ) → 0 < k → k < tail → Link W cs k
   pub mono : (j k : ℕ) → j ≤ k → k < tail → length (W j) ≤ length (W k)
   pub near : head < tail → (k : ℕ) → k < tail → length (W k) ≤ length (W head) + 1
-  pub known : (a b : ℕ) → a < m.count → b < n.count → (at cs (a * n.count + b)).seen ≡ 1 → Queued cs tail a b
-  pub all_seen : (k : ℕ) → k < tail → (at cs ((at cs k).left * n.count + (at cs k).right)).seen ≡ 1
+  pub known : (a b : ℕ) → a < m.count → b < n.count → (at cs (pair_number n.count a b)).seen ≡ 1 → Queued cs tail a b
+  pub all_seen : (k : ℕ) → k < tail → (at cs (pair_number n.count (at cs k).left (at cs k).right)).seen ≡ 1
   pub agree : (k : ℕ) → k < head → Agreeing m n (at cs k).left (at cs k).right
   pub closed : (k : ℕ) → k < tail → (s : Step) → Fit m.inputs s → Past head done k s → Follow m n W cs tail k s
 
@@ -97,13 +119,13 @@ pub record Holds (m n : Meaning) (cs : List Cell) (tail head done : ℕ) : Type 
   pub short : tail ≤ length cs
   pub few : length cs ≤ max_pairs
 
--- the item at `head`, the pair (a, b), is being dealt with: its first `done` steps are, and drew the same outputs
-pub record Visiting (m n : Meaning) (cs : List Cell) (tail head a b done : ℕ) : Type 0 where
+-- the item at `head`, whose pair c holds, is being dealt with: its first `done` steps are, and drew the same outputs
+pub record Visiting (m n : Meaning) (cs : List Cell) (tail head : ℕ) (c : Cell) (done : ℕ) : Type 0 where
   pub more : head < tail
   pub holds : Holds m n cs tail head done
-  pub is_left : (at cs head).left ≡ a
-  pub is_right : (at cs head).right ≡ b
-  pub same : (i : ℕ) → i + 1 < done → output m a i ≡ output n b i
+  pub is_left : (at cs head).left ≡ c.left
+  pub is_right : (at cs head).right ≡ c.right
+  pub same : (i : ℕ) → i + 1 < done → output m c.left i ≡ output n c.right i
 
 -- every pair that a string leads to stands in the queue, and the machines agree at each
 pub record Searched (m n : Meaning) (cs : List Cell) : Type 0 where
@@ -120,7 +142,7 @@ pub record Told (m n : Meaning) (cs : List Cell) (place input : ℕ) : Type 0 wh
   pub fits : input < m.inputs
   pub differ : output m (at cs place).left input ≢ output n (at cs place).right input
 
--- what a visit of the item at `head` found
-abbrev pub Visited : Meaning → Meaning → List Cell → ℕ → Visit → Type 0
-Visited m n cs head (Agree tail) = Holds m n cs tail (head + 1) 0
-Visited m n cs head (Differ input) = Told m n cs head input
+-- what a visit of the item at `head` answers: where the queue then ends, or an input at which the item's outputs differ
+abbrev pub Visited : Meaning → Meaning → List Cell → ℕ → Result ℕ Found → Type 0
+Visited m n cs head (Ok tail) = Holds m n cs tail (head + 1) 0
+Visited m n cs head (Err f) = (f.place ≡ head) × Told m n cs head f.input

@@ -1,5 +1,5 @@
 -- How the string that leads to an item is read off the parents and written as a timed word in half days.
-use Rattle.std.specs.Prelude.{◌≡◌, ℕ, ◌+◌, ◌-◌, ◌<◌, ◌≤◌, List, [], ◌∷◌, ◌++◌, length, take, drop}
+use Rattle.std.specs.Prelude.{◌≡◌, ℕ, ◌+◌, ◌-◌, ◌<◌, ◌≤◌, List, [], ◌∷◌, ◌++◌, length, take, drop, sum_by}
 use Rattle.table.specs.declared.word.Entry.{Entry}
 use Rattle.table.specs.declared.word.Step.{Step}
 use Rattle.table.specs.declared.word.Step.TheVariants.{Tick, Take}
@@ -12,8 +12,7 @@ one_take Tick = 0
 one_take (Take i) = 1
 
 abbrev pub takes : List Step → ℕ
-takes [] = 0
-takes (x ∷ w) = one_take x + takes w
+takes = sum_by one_take
 
 -- W gives the string of each item up to `place`
 pub record Chain (W : ℕ → List Step) (cs : List Cell) (place : ℕ) : Type 0 where

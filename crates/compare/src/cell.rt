@@ -8,7 +8,8 @@ use table::word::Step;
 
 /// A cell of the search, which serves twice: as a place of the queue it holds a pair of states, the place of
 /// the pair that it was reached from and the step that led to it; by the number of a pair it says whether the pair was seen.
-#[derive(Clone, Copy)]
+/// A record of plain integers, at most 12 bytes, as the project has it: `step` and `seen` are numbers, and blank is every byte zero.
+#[derive(Clone, Copy, Debug, PartialEq, Eq)]
 pub struct Cell {
     pub(crate) left: u16,
     pub(crate) right: u16,
@@ -27,7 +28,7 @@ pub const BLANK: Cell = Cell {
 };
 
 impl Cell {
-    /// The cell that holds nothing.
+    /// The cell that holds nothing, as a call; an array of cells is made of the constant.
     pub fn blank() -> Cell
         ensures { result ≡ blank }
     {
@@ -35,17 +36,17 @@ impl Cell {
     }
 }
 
-/// The number of a step in a cell: 0 for a tick, and above it the inputs.
+/// The number of a step in a cell: 0 for a tick, and above it the inputs. No `From`: neither of its types is of this crate.
 pub fn step_number(step: Step) -> u16
     ensures { result ≡ number_of step }
 {
     match step {
         Step::Tick => 0,
-        Step::Take(input) => input as u16 + 1,
+        Step::Take(input) => u16::from(input) + 1,
     }
 }
 
-/// The step that has a number, of the steps of a machine.
+/// The step that has a number, of the steps of a machine; no `From`, likewise.
 pub(crate) fn numbered_step(number: u16) -> Step
     requires { number ≤ max_inputs }
     ensures { result ≡ step_of number }
@@ -61,7 +62,5 @@ pub(crate) fn numbered_step(number: u16) -> Step
 pub fn clear(cells: &mut [Cell])
     ensures { AllBlank cells.new }
 {
-    for cell in cells.iter_mut() {
-        *cell = BLANK;
-    }
+    cells.fill(BLANK);
 }

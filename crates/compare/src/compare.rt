@@ -6,12 +6,13 @@ ghost use Rattle.table.specs.Word.{steps};
 ghost use Rattle.compare.specs.Cell.{AllBlank};
 ghost use Rattle.compare.specs.declared.compare.Verdict.TheVariants.{Different};
 ghost use Rattle.compare.specs.Compare.{cells_needed, entries_needed, Decided, Compared};
+ghost use Rattle.compare.specs.Machines.{left_of, right_of};
 ghost use Rattle.compare.specs.Partner.{SearchedIfAlike};
-ghost use Rattle.compare.specs.Search.{Searched};
+ghost use Rattle.compare.specs.Search.{Fresh, Searched};
 
 use crate::cell::{Cell, clear};
 use crate::fault::CompareFault;
-use crate::search::search;
+use crate::search::Machines;
 use crate::spell::{count_entries, spell};
 use crate::workspace::Workspace;
 use table::grain::Grain;
@@ -19,24 +20,32 @@ use table::machine::Machine;
 use table::word::Entry;
 
 /// What a comparison finds: alike, or different with the counts of steps and entries of a word that tells the two apart.
-#[derive(Clone, Copy)]
+/// An enum of its own, and no `Option`: both are answers, and their names are the subject's words.
+#[derive(Clone, Copy, Debug, PartialEq, Eq)]
 pub enum Verdict {
     Alike,
     Different { steps: u32, entries: u32 },
+}
+
+/// How many pairs of states the two have.
+fn count_pairs<M: Machine, N: Machine>(left: &M, right: &N) -> usize
+    ensures { result ≡ M.count left.now * N.count right.now }
+{
+    usize::from(left.count()) * usize::from(right.count())
 }
 
 /// How many cells a comparison of the two needs: one for each pair of states.
 pub fn cells_needed<M: Machine, N: Machine>(left: &M, right: &N) -> usize
     ensures { result ≡ cells_needed (means M.Machine left.now) (means N.Machine right.now) }
 {
-    left.count() as usize * right.count() as usize
+    count_pairs(left, right)
 }
 
 /// How many word entries a comparison of the two needs.
 pub fn entries_needed<M: Machine, N: Machine>(left: &M, right: &N) -> usize
     ensures { result ≡ entries_needed (means M.Machine left.now) (means N.Machine right.now) }
 {
-    left.count() as usize * right.count() as usize
+    count_pairs(left, right)
 }
 
 /// The verdict with the counts of the word that the first entries of the buffer are.
@@ -51,27 +60,26 @@ fn different(word: &[Entry], entries: u32) -> Verdict
 
 /// Searches the pairs of states in blank cells, one for each pair, and writes the word that was found.
 fn decide<M: Machine, N: Machine>(
-    left: &M,
-    right: &N,
+    machines: &Machines<M, N>,
     cells: &mut [Cell],
     word: &mut [Entry],
 ) -> Verdict
-    requires inputs { M.Machine.inputs left.now ≡ N.Machine.inputs right.now }
-    requires cells { length cells.old ≡ M.Machine.count left.now * N.Machine.count right.now }
-    requires blank { AllBlank cells.old }
-    requires entries { M.Machine.count left.now * N.Machine.count right.now ≤ length word.old }
-    ensures decided { Decided (means M.Machine left.now) (means N.Machine right.now) result word.old word.new }
-    ensures searched { result ≡ Verdict.Alike → Searched (means M.Machine left.now) (means N.Machine right.now) cells.new }
+    requires fresh { Fresh (left_of machines.now) (right_of machines.now) cells.old }
+    requires entries { entries_needed (left_of machines.now) (right_of machines.now) ≤ length word.old }
+    ensures decided { Decided (left_of machines.now) (right_of machines.now) result word.old word.new }
+    ensures searched { result ≡ Verdict.Alike → Searched (left_of machines.now) (right_of machines.now) cells.new }
 {
-    match search(left, right, cells) {
-        None => Verdict::Alike,
-        Some(found) => {
+    match machines.search(cells) {
+        Ok(()) => Verdict::Alike,
+        Err(found) => {
             let entries = count_entries(cells, found.place);
-            spell(cells, found.place, found.input, entries as usize, word);
+            spell(cells, found, entries as usize, word);
             different(word, entries)
         }
     }
 }
+
+// The public calls take the two machines apart, as their callers hold them: a caller builds no `Machines`.
 
 /// Compares two machines over cells that may hold anything, and leaves in them what the search wrote, for `partner` to read.
 pub fn compare_in<M: Machine, N: Machine>(
@@ -86,6 +94,7 @@ pub fn compare_in<M: Machine, N: Machine>(
     if left.inputs() != right.inputs() {
         return Err(CompareFault::Inputs);
     }
+    let machines = Machines { left, right };
     let needed = cells_needed(left, right);
     if cells.len() < needed {
         return Err(CompareFault::Cells);
@@ -95,7 +104,7 @@ pub fn compare_in<M: Machine, N: Machine>(
     }
     let part = &mut cells[0..needed];
     clear(part);
-    Ok(decide(left, right, part, word))
+    Ok(decide(&machines, part, word))
 }
 
 /// Compares two machines: alike, or different with a word of fewest steps at the buffer's start. Every cell is blank at the end.

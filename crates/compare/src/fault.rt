@@ -7,7 +7,7 @@ ghost use Rattle.compare.specs.declared.fault.CompareFault.TheVariants as refusa
 use table::fault::{Place, TableFault};
 
 /// A refusal of this layer, or of the table below it.
-#[derive(Clone, Copy)]
+#[derive(Clone, Copy, Debug, PartialEq, Eq)]
 pub enum CompareFault {
     /// A book is refused.
     Table(TableFault),
@@ -35,7 +35,7 @@ impl CompareFault {
         }
     }
 
-    /// The layer that refuses.
+    /// The layer that refuses. Each layer answers for itself and asks the one below for its own; a trait would be no plainer.
     pub fn layer(self) -> &'static str
         ensures { result.now ≡ layer_of self }
     {
@@ -46,12 +46,12 @@ impl CompareFault {
     }
 
     /// The place of the fault.
-    pub fn place(self) -> Place
+    pub fn place(self) -> Option<Place>
         ensures { result ≡ place_of self }
     {
         match self {
             CompareFault::Table(fault) => fault.place(),
-            _ => Place::Nowhere,
+            _ => None,
         }
     }
 }

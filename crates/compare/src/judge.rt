@@ -2,12 +2,12 @@
 
 ghost use Rattle.std.specs.Prelude.{◌≡◌, ◌≤◌, length, IfOk};
 ghost use Rattle.compare.specs.Cell.{AllBlank};
-ghost use Rattle.compare.specs.Judge.{books_of, outcome_of, Read, Judged, Finds};
+ghost use Rattle.compare.specs.Judge.{refusing, books_of, drafts_of, Judged, Finds};
 
 use crate::cell::Cell;
-use crate::compare::{Verdict, compare_in};
+use crate::compare::compare_in;
 use crate::fault::CompareFault;
-use crate::outcome::Outcome;
+use crate::outcome::{Finding, Outcome, Refusal};
 use crate::report::write_report;
 use crate::workspace::Workspace;
 use table::book::Book;
@@ -17,58 +17,29 @@ use table::word::Entry;
 use text::fault::TextFault;
 use text::lexer::first_part;
 
-// Which book is refused and why.
-#[derive(Clone, Copy)]
-struct Refusal {
-    book: u8,
-    fault: CompareFault,
+// A fault in reading a book.
+fn refusing(book: u8, fault: TableFault) -> Refusal
+    ensures { result ≡ refusing book fault }
+{
+    Refusal {
+        book,
+        fault: fault.into(),
+    }
 }
 
 // The two books of an input.
 fn read_books(input: &[u8]) -> Result<(Book, Book), Refusal>
-    ensures { Read (books_of input.now) result }
+    ensures { books_of input.now ≡ drafts_of result }
 {
     let mut left = Book::new();
-    let behind = match left.read(input) {
-        Ok(end) => end,
-        Err(fault) => return Err(Refusal {
-            book: 1,
-            fault: CompareFault::Table(fault),
-        }),
-    };
+    let behind = left.read(input).map_err(|fault| refusing(1, fault))?;
     let mut right = Book::new();
-    let end = match right.read_from(input, behind) {
-        Ok(end) => end,
-        Err(fault) => return Err(Refusal {
-            book: 2,
-            fault: CompareFault::Table(fault),
-        }),
-    };
+    let end = right
+        .read_from(input, behind)
+        .map_err(|fault| refusing(2, fault))?;
     match first_part(input, end) {
-        Some(at) => {
-            let fault = TableFault::Text(TextFault::Trailing { at });
-            Err(Refusal {
-                book: 2,
-                fault: CompareFault::Table(fault),
-            })
-        }
+        Some(at) => Err(refusing(2, TextFault::Trailing { at }.into())),
         None => Ok((left, right)),
-    }
-}
-
-// What there is to report of the comparison of two books with so many states.
-fn outcome_of(left: u16, right: u16, answer: Result<Verdict, CompareFault>) -> Outcome
-    ensures { result ≡ outcome_of left right answer }
-{
-    match answer {
-        Ok(Verdict::Alike) => Outcome::Alike { left, right },
-        Ok(Verdict::Different { steps, entries }) => Outcome::Different {
-            left,
-            right,
-            steps,
-            entries,
-        },
-        Err(fault) => Outcome::Refused { book: 2, fault },
     }
 }
 
@@ -76,15 +47,16 @@ fn outcome_of(left: u16, right: u16, answer: Result<Verdict, CompareFault>) -> O
 fn find_outcome(input: &[u8], cells: &mut [Cell], word: &mut [Entry]) -> Outcome
     ensures { Finds (books_of input.now) (length cells.old) word.old word.new result }
 {
-    let (left, right) = match read_books(input) {
-        Ok(books) => books,
-        Err(refusal) => return Outcome::Refused {
-            book: refusal.book,
-            fault: refusal.fault,
-        },
-    };
-    let answer = compare_in(&left, &right, cells, word);
-    outcome_of(left.count(), right.count(), answer)
+    let (left, right) = read_books(input)?;
+    let verdict = compare_in(&left, &right, cells, word).map_err(|fault| Refusal {
+        book: 2,
+        fault,
+    })?;
+    Ok(Finding {
+        left: left.count(),
+        right: right.count(),
+        verdict,
+    })
 }
 
 /// Reads two books from an input, compares them, writes the report from the buffer's start and answers how

@@ -1,13 +1,19 @@
 //! The judge's report.
+//!
+//! Each line is pushed into a text of its own. An impl of `Display` would not do: its contract says nothing of a `fmt` that fails,
+//! and the report's contract says every byte.
 
-ghost use Rattle.std.specs.Prelude.{◌≡◌, ◌+◌, ◌*◌, ◌≤◌, [], ◌∷◌, ◌++◌, length, IfOk, decimal};
+ghost use Rattle.std.specs.Prelude.{◌≡◌, ◌+◌, ◌*◌, ◌≤◌, ◌++◌, length, IfOk};
 ghost use Rattle.std.specs.List.{flat_map};
+ghost use Rattle.arrayvec.specs.ArrayString.{array_string_len};
 ghost use Rattle.text.specs.Put.{Puts};
 ghost use Rattle.text.specs.Write.{filled};
-ghost use Rattle.compare.specs.Report.{field, place_fields, head_line, entry_line, shown_entries, alike_line, different_line, fault_line, head_room, entry_room, report as report_of, reported};
+ghost use Rattle.compare.specs.Report.{field, place_fields, head_line, entry_line, word_of, shown_entries, fault_line, verdict_line, report as report_of, reported};
 
+use crate::compare::Verdict;
 use crate::fault::CompareFault;
-use crate::outcome::Outcome;
+use crate::outcome::{Finding, Outcome, Refusal};
+use arrayvec::ArrayString;
 use table::fault::Place;
 use table::word::Entry;
 use text::digits::Digits;
@@ -17,158 +23,142 @@ use text::put::put;
 const HEAD_ROOM: usize = 128;
 // Room for the line of any entry.
 const ENTRY_ROOM: usize = 48;
-
-// Bytes for which there is room.
-fn put_bytes(out: &mut [u8], at: usize, bytes: &[u8]) -> usize
-    requires { at + length bytes.now ≤ length out.old }
-    ensures { Puts out.old at out.new result bytes.now }
-{
-    put(out, at, bytes)
-}
-
-fn put_number(out: &mut [u8], at: usize, n: u64) -> usize
-    requires { at + 20 ≤ length out.old }
-    ensures puts { Puts out.old at out.new result (decimal n) }
-    ensures short { result ≤ at + 20 }
-{
-    let digits = Digits::of(n);
-    put_bytes(out, at, digits.as_bytes())
-}
+// Room for a blank and any number behind it.
+const FIELD_ROOM: usize = 21;
 
 // A number behind a blank.
-fn put_field(out: &mut [u8], at: usize, n: u64) -> usize
-    requires { at + 21 ≤ length out.old }
-    ensures puts { Puts out.old at out.new result (field n) }
-    ensures short { result ≤ at + 21 }
+fn push_field<const CAP: usize>(line: &mut ArrayString<CAP>, n: u64)
+    requires { array_string_len line.old + FIELD_ROOM ≤ CAP }
+    ensures bytes { line.new.bytes ≡ line.old.bytes ++ field n }
+    ensures short { array_string_len line.new ≤ array_string_len line.old + FIELD_ROOM }
 {
-    let at = put_bytes(out, at, b" ");
-    put_number(out, at, n)
+    line.push_str(" ");
+    line.push_str(Digits::of(n).as_str());
 }
 
-fn put_place(out: &mut [u8], at: usize, place: Place) -> usize
-    requires { at + 63 ≤ length out.old }
-    ensures puts { Puts out.old at out.new result (place_fields place) }
-    ensures short { result ≤ at + 63 }
+// The numbers of a fault's place.
+fn push_place(line: &mut ArrayString<HEAD_ROOM>, place: Option<Place>)
+    requires { array_string_len line.old + 3 * FIELD_ROOM ≤ HEAD_ROOM }
+    ensures bytes { line.new.bytes ≡ line.old.bytes ++ place_fields place }
+    ensures short { array_string_len line.new ≤ array_string_len line.old + 3 * FIELD_ROOM }
 {
     match place {
-        Place::Nowhere => put_bytes(out, at, b""),
-        Place::At(n) => put_field(out, at, n as u64),
-        Place::Spot {
-            state,
-            input,
-            stretch,
-        } => {
-            let at = put_field(out, at, state as u64);
-            let at = put_field(out, at, input as u64);
-            put_field(out, at, stretch as u64)
+        None => {}
+        Some(Place::At(n)) => push_field(line, n as u64),
+        Some(Place::Spot(spot)) => {
+            push_field(line, u64::from(spot.state));
+            push_field(line, u64::from(spot.input));
+            push_field(line, u64::from(spot.stretch));
         }
     }
 }
 
-fn put_alike(out: &mut [u8], left: u16, right: u16) -> usize
-    requires { head_room ≤ length out.old }
-    ensures puts { Puts out.old 0 out.new result (alike_line left right) }
-    ensures short { result ≤ head_room }
+// The word of a verdict, and how many states each book has.
+fn states_line(word: &str, finding: Finding) -> ArrayString<HEAD_ROOM>
+    requires { length word.now ≤ 9 }
+    ensures bytes { result.bytes ≡ word.now ++ (field finding.left ++ field finding.right) }
+    ensures short { array_string_len result ≤ length word.now + 2 * FIELD_ROOM }
 {
-    let at = put_bytes(out, 0, b"alike");
-    let at = put_field(out, at, left as u64);
-    let at = put_field(out, at, right as u64);
-    put_bytes(out, at, b"\n")
+    let mut line = ArrayString::new();
+    line.push_str(word);
+    push_field(&mut line, u64::from(finding.left));
+    push_field(&mut line, u64::from(finding.right));
+    line
 }
 
-fn put_different(out: &mut [u8], left: u16, right: u16, steps: u32, entries: u32) -> usize
-    requires { head_room ≤ length out.old }
-    ensures puts { Puts out.old 0 out.new result (different_line left right steps entries) }
-    ensures short { result ≤ head_room }
+// The line of what was found.
+fn finding_line(finding: Finding) -> ArrayString<HEAD_ROOM>
+    ensures { result.bytes ≡ verdict_line finding.left finding.right finding.verdict }
 {
-    let at = put_bytes(out, 0, b"different");
-    let at = put_field(out, at, left as u64);
-    let at = put_field(out, at, right as u64);
-    let at = put_field(out, at, steps as u64);
-    let at = put_field(out, at, entries as u64);
-    put_bytes(out, at, b"\n")
+    let mut line = match finding.verdict {
+        Verdict::Alike => states_line("alike", finding),
+        Verdict::Different { steps, entries } => {
+            let mut line = states_line("different", finding);
+            push_field(&mut line, u64::from(steps));
+            push_field(&mut line, u64::from(entries));
+            line
+        }
+    };
+    line.push_str("\n");
+    line
 }
 
-fn put_fault(out: &mut [u8], book: u8, fault: CompareFault) -> usize
-    requires { head_room ≤ length out.old }
-    ensures puts { Puts out.old 0 out.new result (fault_line book fault) }
-    ensures short { result ≤ head_room }
+// The line of a refusal.
+fn refusal_line(refusal: Refusal) -> ArrayString<HEAD_ROOM>
+    ensures { result.bytes ≡ fault_line refusal.book refusal.fault }
 {
-    let at = put_bytes(out, 0, b"fault");
-    let at = put_field(out, at, book as u64);
-    let at = put_bytes(out, at, b" ");
-    let at = put_bytes(out, at, fault.layer().as_bytes());
-    let at = put_field(out, at, fault.number() as u64);
-    let at = put_place(out, at, fault.place());
-    put_bytes(out, at, b"\n")
+    let fault = refusal.fault;
+    let mut line = ArrayString::new();
+    line.push_str("fault");
+    push_field(&mut line, u64::from(refusal.book));
+    line.push_str(" ");
+    line.push_str(fault.layer());
+    push_field(&mut line, u64::from(fault.number()));
+    push_place(&mut line, fault.place());
+    line.push_str("\n");
+    line
 }
 
-fn put_head(out: &mut [u8], outcome: Outcome) -> usize
-    requires { head_room ≤ length out.old }
-    ensures puts { Puts out.old 0 out.new result (head_line outcome) }
-    ensures short { result ≤ head_room }
+// The first line of a report.
+fn first_line(outcome: Outcome) -> ArrayString<HEAD_ROOM>
+    ensures { result.bytes ≡ head_line outcome }
 {
     match outcome {
-        Outcome::Alike { left, right } => put_alike(out, left, right),
-        Outcome::Different {
-            left,
-            right,
-            steps,
-            entries,
-        } => put_different(out, left, right, steps, entries),
-        Outcome::Refused { book, fault } => put_fault(out, book, fault),
+        Ok(finding) => finding_line(finding),
+        Err(refusal) => refusal_line(refusal),
     }
 }
 
-fn put_entry(out: &mut [u8], entry: Entry) -> usize
-    requires { entry_room ≤ length out.old }
-    ensures puts { Puts out.old 0 out.new result (entry_line entry) }
-    ensures short { result ≤ entry_room }
+// The line of an entry.
+fn line_of(entry: Entry) -> ArrayString<ENTRY_ROOM>
+    ensures { result.bytes ≡ entry_line entry }
 {
-    let at = put_number(out, 0, entry.wait as u64);
-    let at = put_field(out, at, entry.input as u64);
-    put_bytes(out, at, b"\n")
-}
-
-// How long the line of an entry is.
-fn line_length(entry: Entry) -> usize
-    ensures is { result ≡ length (entry_line entry) }
-    ensures short { result ≤ entry_room }
-{
-    let mut line = [0; ENTRY_ROOM];
-    put_entry(&mut line, entry)
+    let mut line = ArrayString::new();
+    line.push_str(Digits::of(u64::from(entry.wait)).as_str());
+    push_field(&mut line, u64::from(entry.input));
+    line.push_str("\n");
+    line
 }
 
 // How long the lines of the entries are.
 fn lines_length(entries: &[Entry]) -> u128
-    ensures is { result ≡ length (flat_map entry_line entries.now) }
-    ensures short { result ≤ entry_room * length entries.now }
+    ensures { result ≡ length (flat_map entry_line entries.now) }
 {
-    let mut total: u128 = 0;
-    for entry in entries {
-        total += line_length(*entry) as u128;
-    }
-    total
+    entries
+        .iter()
+        .map(|entry| line_of(*entry).len() as u128)
+        .sum()
 }
 
-fn put_line(out: &mut [u8], at: usize, entry: Entry) -> usize
-    requires { at + length (entry_line entry) ≤ length out.old }
-    ensures { Puts out.old at out.new result (entry_line entry) }
+// Puts a line, for which there is room. A place is handed on, and not the rest of the buffer: that would be lent back, and its
+// contract would have to say how the two go together.
+fn put_line<const CAP: usize>(out: &mut [u8], at: usize, line: &ArrayString<CAP>) -> usize
+    requires { at + array_string_len line.now ≤ length out.old }
+    ensures { Puts out.old at out.new result line.now.bytes }
 {
-    let mut line = [0; ENTRY_ROOM];
-    let end = put_entry(&mut line, entry);
-    put_bytes(out, at, &line[0..end])
+    put(out, at, line.as_str().as_bytes())
 }
 
+// Puts the lines of the entries, for which there is room.
 fn put_lines(out: &mut [u8], from: usize, entries: &[Entry]) -> usize
     requires { from + length (flat_map entry_line entries.now) ≤ length out.old }
     ensures { Puts out.old from out.new result (flat_map entry_line entries.now) }
 {
     let mut at = from;
     for entry in entries {
-        at = put_line(out, at, *entry);
+        at = put_line(out, at, &line_of(*entry));
     }
     at
+}
+
+// The entries of the word that was found.
+fn found_word(verdict: Verdict, word: &[Entry]) -> &[Entry]
+    ensures { result.now ≡ word_of verdict word.now }
+{
+    match verdict {
+        Verdict::Alike => &[],
+        Verdict::Different { entries, .. } => &word[..(entries as usize).min(word.len())],
+    }
 }
 
 // The entries that the report shows.
@@ -176,8 +166,8 @@ fn shown(outcome: Outcome, word: &[Entry]) -> &[Entry]
     ensures { result.now ≡ shown_entries outcome word.now }
 {
     match outcome {
-        Outcome::Different { entries, .. } => &word[0..(entries as usize).min(word.len())],
-        _ => &word[0..0],
+        Ok(finding) => found_word(finding.verdict, word),
+        Err(_) => &[],
     }
 }
 
@@ -192,13 +182,12 @@ pub fn write_report(
     ensures fills { report.new ≡ filled (report_of outcome word.now) report.old }
     ensures within { IfOk result (λ n. n ≤ length report.old) }
 {
-    let mut head = [0; HEAD_ROOM];
-    let end = put_head(&mut head, outcome);
+    let head = first_line(outcome);
     let entries = shown(outcome, word);
-    let length = end as u128 + lines_length(entries);
+    let length = lines_length(entries).saturating_add(head.len() as u128);
     if length > report.len() as u128 {
         return Err(CompareFault::Report);
     }
-    let at = put_bytes(report, 0, &head[0..end]);
+    let at = put_line(report, 0, &head);
     Ok(put_lines(report, at, entries))
 }

@@ -1,33 +1,38 @@
 //! The breadth-first search for a pair of states at which some input draws different outputs.
 
-ghost use Rattle.std.specs.Prelude.{◌≡◌, ◌+◌, ◌-◌, ◌*◌, ◌<◌, ◌≢◌, length, MatchOption};
-ghost use Rattle.table.specs.Means.{means};
-ghost use Rattle.compare.specs.Cell.{AllBlank};
-ghost use Rattle.compare.specs.Search.{at, placed, marked, pair_number, Queueing, Holds, Visited, Searched, Told};
+ghost use Rattle.std.specs.Prelude.{◌≡◌, ◌+◌, ◌-◌, ◌*◌, ◌^◌, ◌<◌, ◌≢◌, length, MatchResult};
+ghost use Rattle.compare.specs.Cell.{number_of};
+ghost use Rattle.compare.specs.Search.{at, placed, marked, Fresh, pair_number, Inside, NextItem, Taken, Queueing, Holds, Visited, Searched, Told};
 
 use crate::cell::{Cell, step_number};
 use table::machine::Machine;
 use table::word::Step;
 
-/// The state after a tick, of a state that the machine has.
-fn ticked<M: Machine>(machine: &M, state: u16) -> u16
-    requires { state < M.Machine.count machine.now }
-    ensures { result ≡ M.Machine.tick machine.now state }
-{
-    match machine.tick(state) {
-        Some(next) => next,
-        None => state,
-    }
+/// Where the search stopped: the place of a pair in the queue, and an input at which its outputs differ.
+#[derive(Clone, Copy, Debug, PartialEq, Eq)]
+pub(crate) struct Found {
+    pub(crate) place: usize,
+    pub(crate) input: u8,
 }
 
-/// The state after an input and its output, of a state and an input that the machine has.
-fn taken<M: Machine>(machine: &M, state: u16, input: u8) -> (u16, u8)
-    requires { (state < M.Machine.count machine.now) × (input < M.Machine.inputs machine.now) }
-    ensures { result ≡ M.Machine.take machine.now state input }
+/// The number of a pair of states, with `width` states on the right.
+pub(crate) fn pair_number(width: u16, left: u16, right: u16) -> usize
+    ensures { result ≡ pair_number width left right }
 {
-    match machine.take(state, input) {
-        Some(answer) => answer,
-        None => (state, 0),
+    usize::from(left) * usize::from(width) + usize::from(right)
+}
+
+/// The item for a pair of states to which `step` led from the item at `parent`.
+fn item(left: u16, right: u16, parent: usize, step: Step) -> Cell
+    requires { parent < 2 ^ 32 }
+    ensures { result ≡ record { left = left; right = right; parent = parent; step = number_of step; seen = 0 } }
+{
+    Cell {
+        left,
+        right,
+        parent: parent as u32,
+        step: step_number(step),
+        seen: 0,
     }
 }
 
@@ -36,26 +41,23 @@ fn place(cells: &mut [Cell], tail: usize, item: Cell, number: usize)
     requires { (tail < length cells.old) × (number < length cells.old) }
     ensures { cells.new ≡ marked (placed cells.old tail item) number }
 {
-    let seen = cells[tail].seen;
     cells[tail] = Cell {
-        left: item.left,
-        right: item.right,
-        parent: item.parent,
-        step: item.step,
-        seen,
+        seen: cells[tail].seen,
+        ..item
     };
-    let mut other = cells[number];
-    other.seen = 1;
-    cells[number] = other;
+    cells[number] = Cell {
+        seen: 1,
+        ..cells[number]
+    };
 }
 
 /// Queues an item unless its pair is seen, and answers where the queue then ends.
 fn queue(cells: &mut [Cell], width: u16, tail: usize, item: Cell) -> usize
-    requires inside { pair_number width item < length cells.old }
-    requires room { (at cells.old (pair_number width item)).seen ≢ 1 → tail < length cells.old }
+    requires inside { pair_number width item.left item.right < length cells.old }
+    requires room { (at cells.old (pair_number width item.left item.right)).seen ≢ 1 → tail < length cells.old }
     ensures { Queueing width cells.old cells.new tail item result }
 {
-    let number = item.left as usize * width as usize + item.right as usize;
+    let number = pair_number(width, item.left, item.right);
     if cells[number].seen == 1 {
         return tail;
     }
@@ -63,102 +65,75 @@ fn queue(cells: &mut [Cell], width: u16, tail: usize, item: Cell) -> usize
     tail + 1
 }
 
-/// What a visit of the pair at the head of the queue finds.
-#[derive(Clone, Copy)]
-enum Visit {
-    /// The outputs agree at every input; the queue now ends at `tail`.
-    Agree { tail: usize },
-    /// They differ at this input.
-    Differ { input: u8 },
+/// Two machines that take the same inputs. The cells are no field, which would be no plainer: each method that writes them
+/// would have to promise that the machines stay as they are.
+#[derive(Drop)]
+pub(crate) struct Machines<'a, M: Machine, N: Machine> {
+    pub(crate) left: &'a M,
+    pub(crate) right: &'a N,
+    ghost same_inputs: { M.inputs left.now ≡ N.inputs right.now },
 }
 
-/// Steps the pair at the head of the queue by a tick and by each input, and queues the pairs that it comes to.
-fn visit_head<M: Machine, N: Machine>(
-    left: &M,
-    right: &N,
-    cells: &mut [Cell],
-    head: usize,
-    tail: usize,
-) -> Visit
-    requires inputs { M.Machine.inputs left.now ≡ N.Machine.inputs right.now }
-    requires room { length cells.old ≡ M.Machine.count left.now * N.Machine.count right.now }
-    requires more { head < tail }
-    requires holds { Holds (means M.Machine left.now) (means N.Machine right.now) cells.old tail head 0 }
-    ensures { Visited (means M.Machine left.now) (means N.Machine right.now) cells.new head result }
-{
-    let pair = cells[head];
-    let width = right.count();
-    let a = ticked(left, pair.left);
-    let b = ticked(right, pair.right);
-    let item = Cell {
-        left: a,
-        right: b,
-        parent: head as u32,
-        step: step_number(Step::Tick),
-        seen: 0,
-    };
-    let mut end = queue(cells, width, tail, item);
-    for input in 0..left.inputs() {
-        let (a, drawn_left) = taken(left, pair.left, input);
-        let (b, drawn_right) = taken(right, pair.right, input);
+impl<M: Machine, N: Machine> Machines<'_, M, N> {
+    ghost use Rattle.compare.specs.Machines.{left_of, right_of};
+
+    /// The item that a tick leads to, from an item and its place.
+    fn ticked(&self, from: Cell, place: usize) -> Cell
+        requires inside { Inside (left_of self.now) (right_of self.now) from }
+        requires few { place < 2 ^ 32 }
+        ensures { NextItem (left_of self.now) (right_of self.now) from place Step.Tick result }
+    {
+        let left = self.left.tick(from.left).unwrap();
+        let right = self.right.tick(from.right).unwrap();
+        item(left, right, place, Step::Tick)
+    }
+
+    /// The item that an input leads to, from an item and its place; refused where the outputs differ.
+    fn taken(&self, from: Cell, place: usize, input: u8) -> Result<Cell, Found>
+        requires inside { Inside (left_of self.now) (right_of self.now) from }
+        requires few { place < 2 ^ 32 }
+        requires input { input < M.inputs self.now.left.now }
+        ensures { Taken (left_of self.now) (right_of self.now) from place input result }
+    {
+        let (left, drawn_left) = self.left.take(from.left, input).unwrap();
+        let (right, drawn_right) = self.right.take(from.right, input).unwrap();
         if drawn_left != drawn_right {
-            return Visit::Differ { input };
+            return Err(Found { place, input });
         }
-        let item = Cell {
-            left: a,
-            right: b,
-            parent: head as u32,
-            step: step_number(Step::Take(input)),
-            seen: 0,
-        };
-        end = queue(cells, width, end, item);
+        Ok(item(left, right, place, Step::Take(input)))
     }
-    Visit::Agree { tail: end }
-}
 
-/// Where the search stopped: the place of a pair in the queue, and an input at which its outputs differ.
-#[derive(Clone, Copy)]
-pub(crate) struct Found {
-    pub(crate) place: usize,
-    pub(crate) input: u8,
-}
-
-/// Visits the pairs that strings of steps lead to, nearest first, up to one at which some input draws different outputs.
-pub(crate) fn search<M: Machine, N: Machine>(
-    left: &M,
-    right: &N,
-    cells: &mut [Cell],
-) -> Option<Found>
-    requires inputs { M.Machine.inputs left.now ≡ N.Machine.inputs right.now }
-    requires room { length cells.old ≡ M.Machine.count left.now * N.Machine.count right.now }
-    requires blank { AllBlank cells.old }
-    ensures { MatchOption result (Searched (means M.Machine left.now) (means N.Machine right.now) cells.new) (λ f. Told (means M.Machine left.now) (means N.Machine right.now) cells.new f.place f.input) }
-{
-    let a = left.start();
-    let b = right.start();
-    let first = Cell {
-        left: a,
-        right: b,
-        parent: 0,
-        step: 0,
-        seen: 0,
-    };
-    place(
-        cells,
-        0,
-        first,
-        a as usize * right.count() as usize + b as usize,
-    );
-    let mut head: usize = 0;
-    let mut tail: usize = 1;
-    while head < tail {
-        match visit_head(left, right, cells, head, tail) {
-            Visit::Differ { input } => return Some(Found { place: head, input }),
-            Visit::Agree { tail: end } => {
-                tail = end;
-            }
+    /// Steps the pair at the head of the queue by a tick and by each input, queues the pairs that it comes to and
+    /// answers where the queue then ends; refused at an input at which the outputs differ.
+    fn visit_head(&self, cells: &mut [Cell], head: usize, tail: usize) -> Result<usize, Found>
+        requires room { length cells.old ≡ M.count self.now.left.now * N.count self.now.right.now }
+        requires more { head < tail }
+        requires holds { Holds (left_of self.now) (right_of self.now) cells.old tail head 0 }
+        ensures { Visited (left_of self.now) (right_of self.now) cells.new head result }
+    {
+        let from = cells[head];
+        let width = self.right.count();
+        let mut end = queue(cells, width, tail, self.ticked(from, head));
+        for input in 0..self.left.inputs() {
+            let next = self.taken(from, head, input)?;
+            end = queue(cells, width, end, next);
         }
-        head += 1;
+        Ok(end)
     }
-    None
+
+    /// Visits the pairs that strings of steps lead to, nearest first; refused at one at which some input draws different outputs.
+    pub(crate) fn search(&self, cells: &mut [Cell]) -> Result<(), Found>
+        requires { Fresh (left_of self.now) (right_of self.now) cells.old }
+        ensures { MatchResult result (λ _. Searched (left_of self.now) (right_of self.now) cells.new) (λ f. Told (left_of self.now) (right_of self.now) cells.new f.place f.input) }
+    {
+        let first = item(self.left.start(), self.right.start(), 0, Step::Tick);
+        let mut head: usize = 0;
+        let mut tail = queue(cells, self.right.count(), 0, first);
+        // A `for` over a range would be no plainer: the queue's end moves while the search runs.
+        while head < tail {
+            tail = self.visit_head(cells, head, tail)?;
+            head += 1;
+        }
+        Ok(())
+    }
 }

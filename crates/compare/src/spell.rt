@@ -1,10 +1,12 @@
-//! Reading a word off the parents of the queue, from the back.
+//! Reading a word off the parents of the queue, from the back. The two walks share no iterator over the parents: it would have to be
+//! proved to end, and would be longer than the two lines that each walk has for it.
 
 ghost use Rattle.std.specs.Prelude.{◌≡◌, ◌+◌, ◌-◌, ◌<◌, ◌≤◌, length, take, drop};
 ghost use Rattle.compare.specs.Search.{max_pairs};
 ghost use Rattle.compare.specs.Spell.{one_take, Chained, Counted, Tallied, Spelled};
 
 use crate::cell::{Cell, numbered_step};
+use crate::search::Found;
 use table::word::{Entry, Step};
 
 /// How many entries a step adds to a word: one for a take.
@@ -37,19 +39,20 @@ pub(crate) fn count_entries(cells: &[Cell], place: usize) -> u32
 }
 
 /// Writes that word at the start of the buffer, from its last entry to its first.
-pub(crate) fn spell(cells: &[Cell], place: usize, input: u8, entries: usize, word: &mut [Entry])
-    requires inside { place < length cells.now }
+pub(crate) fn spell(cells: &[Cell], found: Found, entries: usize, word: &mut [Entry])
+    requires inside { found.place < length cells.now }
     requires few { length cells.now ≤ max_pairs }
     requires room { entries ≤ length word.old }
     requires some { 0 < entries }
-    requires counted { Counted cells.now place place (entries - 1) }
-    ensures written { Spelled cells.now place input 0 (take entries word.new) }
+    requires counted { Counted cells.now found.place found.place (entries - 1) }
+    ensures written { Spelled cells.now found.place found.input 0 (take entries word.new) }
     ensures rest { drop entries word.new ≡ drop entries word.old }
 {
-    let mut item = place;
+    let mut item = found.place;
+    // Counted by hand, from the back: the steps say when the slot moves.
     let mut slot = entries - 1;
     let mut wait: u32 = 0;
-    let mut next = input;
+    let mut next = found.input;
     while item > 0 {
         let cell = cells[item];
         match numbered_step(cell.step) {

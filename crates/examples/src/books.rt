@@ -1,11 +1,11 @@
 //! The texts of the examples, and the judge's word on them.
 
+use arrayvec::ArrayString;
 use compare::cell::BLANK;
 use compare::judge::judge;
 use std::process::Abort;
 use std::test::Fail;
 use table::word::Entry;
-use text::put::put;
 
 /// One stay state that answers its one input with output 0 at any clock.
 pub const PLAIN: &str = "inputs 1 outputs 1 states 1 stay rows 1 0 0 [0,inf) 0 0";
@@ -26,30 +26,28 @@ pub struct Case {
     pub report: &'static str,
 }
 
-// What the judge reports of an input.
-fn reports(input: &[u8], expected: &[u8]) -> bool {
-    let mut cells = [BLANK; 1024];
-    let mut word = [Entry { wait: 9, input: 9 }; 1024];
-    let mut report = [0; 16384];
-    match judge(input, &mut cells, &mut word, &mut report) {
-        Ok(filled) => &report[0..filled] == expected,
-        Err(_) => false,
+/// The parts, one behind another.
+pub fn joined<const N: usize>(parts: &[&str]) -> Result<ArrayString<N>, Fail> {
+    let mut text = ArrayString::new();
+    for part in parts {
+        text.try_push_str(part)?;
     }
+    Ok(text)
 }
 
-/// Judges the two books of a case, the second right behind the first.
-pub fn holds(case: &Case) -> bool {
-    let mut input = [0; 2048];
-    let at = put(&mut input, 0, case.left.as_bytes());
-    let end = put(&mut input, at, case.right.as_bytes());
-    let length = end.min(input.len());
-    reports(&input[0..length], case.report.as_bytes())
+/// Whether all items are this one.
+pub fn are_all<T: PartialEq + Copy>(items: &[T], expected: T) -> bool {
+    items.iter().all(|item| *item == expected)
 }
 
-/// Tries each case of a table.
+/// Judges the two books of each case, the second right behind the first.
 pub fn try_all(rt: &impl Abort, cases: &[Case]) -> Result<(), Fail> {
     for case in cases {
-        assert!(rt; holds(case), "{}", case.right);
+        let input: ArrayString<2048> = joined(&[case.left, case.right])?;
+        let mut word = [Entry { wait: 9, input: 9 }; 1024];
+        let mut report = [0; 16384];
+        let filled = judge(input.as_bytes(), &mut [BLANK; 1024], &mut word, &mut report)?;
+        assert_eq!(rt; &report[..filled], case.report.as_bytes(), "{}", case.right);
     }
     Ok(())
 }

@@ -3,11 +3,13 @@
 use crate::books::*;
 use crate::damaged::*;
 use crate::machines::book;
+use arrayvec::ArrayString;
+use std::fmt;
+use std::fmt::Write;
 use std::process::Abort;
 use std::test::Fail;
 use table::book::Book;
-use table::fault::{Place, TableFault};
-use text::digits::Digits;
+use table::fault::{Place, Spot, TableFault};
 use text::put::put;
 
 /// A text, how many of its bytes are used, and the canonical text of its book.
@@ -132,52 +134,36 @@ const BEHIND: [&str; 15] = [
     "\t1",
 ];
 
-/// Puts what comes before a number, the number, and what comes behind it.
-fn put_number(out: &mut [u8], at: usize, before: &[u8], n: u16, behind: &[u8]) -> usize {
-    let at = put(out, at, before);
-    let at = put(out, at, Digits::of(n as u64).as_bytes());
-    put(out, at, behind)
-}
-
-/// Puts the number, the layer and the place of a fault.
-fn put_fault(out: &mut [u8], fault: TableFault) -> usize {
-    let at = put_number(out, 0, b"", fault.number() as u16, b" ");
-    let at = put(out, at, fault.layer().as_bytes());
+/// The number, the layer and the place of a fault.
+fn shown(fault: TableFault) -> Result<ArrayString<64>, Fail> {
+    let mut text = ArrayString::new();
+    write!(text, "{} {}", fault.number(), fault.layer())?;
     match fault.place() {
-        Place::Nowhere => at,
-        Place::At(n) => {
-            let at = put(out, at, b" ");
-            put(out, at, Digits::of(n as u64).as_bytes())
-        }
-        Place::Spot {
-            state,
-            input,
-            stretch,
-        } => {
-            let at = put_number(out, at, b" ", state as u16, b" ");
-            let at = put_number(out, at, b"", input as u16, b" ");
-            put_number(out, at, b"", stretch as u16, b"")
-        }
+        None => {}
+        Some(Place::At(at)) => write!(text, " {at}")?,
+        Some(
+            Place::Spot(
+                Spot {
+                    state,
+                    input,
+                    stretch,
+                },
+            ),
+        ) => write!(text, " {state} {input} {stretch}")?,
     }
+    Ok(text)
 }
 
 /// Whether the fault has the number, the layer and the place expected.
-pub fn is_fault(fault: TableFault, expected: &str) -> bool {
-    let mut out = [0; 64];
-    let end = put_fault(&mut out, fault).min(out.len());
-    &out[0..end] == expected.as_bytes()
+pub fn is_fault(fault: TableFault, expected: &str) -> Result<bool, Fail> {
+    Ok(shown(fault)?.as_str() == expected)
 }
 
 /// Whether the book's canonical text is the one expected.
-pub fn is_written(book: &Book, expected: &[u8]) -> bool {
+pub fn is_written(book: &Book, expected: &str) -> Result<bool, Fail> {
     let mut out = [0; ROOM];
-    match book.write(&mut out) {
-        Ok(length) => {
-            let length = length.min(out.len());
-            &out[0..length] == expected
-        }
-        Err(_) => false,
-    }
+    let length = book.write(&mut out)?.min(out.len());
+    Ok(&out[..length] == expected.as_bytes())
 }
 
 /// Whether a book that was read before refuses the text with the fault and stays as it was.
@@ -185,26 +171,21 @@ fn refuses(text: &[u8], fault: &str) -> Result<bool, Fail> {
     let mut kept = book(TWO_DAYS)?;
     match kept.read(text) {
         Ok(_) => Ok(false),
-        Err(found) => Ok(is_fault(found, fault) && is_written(&kept, TWO_DAYS.as_bytes())),
+        Err(found) => Ok(is_fault(found, fault)? && is_written(&kept, TWO_DAYS)?),
     }
 }
 
 /// Whether a book that was read before becomes the one expected and uses so many bytes of the text.
-pub fn reads(text: &[u8], used: usize, canonical: &[u8]) -> Result<bool, Fail> {
+pub fn reads(text: &[u8], used: usize, canonical: &str) -> Result<bool, Fail> {
     let mut book = book(TWO_DAYS)?;
-    match book.read(text) {
-        Ok(end) => Ok(end == used && is_written(&book, canonical)),
-        Err(_) => Ok(false),
-    }
+    Ok(book.read(text)? == used && is_written(&book, canonical)?)
 }
 
 /// Tries each text of a table of damaged ones, behind their head.
-fn refuses_all(rt: &impl Abort, head: &str, cases: &[Damaged]) -> Result<(), Fail> {
-    for (rest, fault) in cases {
-        let mut text = [0; 256];
-        let at = put(&mut text, 0, head.as_bytes());
-        let end = put(&mut text, at, rest.as_bytes()).min(text.len());
-        assert!(rt; refuses(&text[0..end], fault)?, "{}", rest);
+fn refuses_all(rt: &impl Abort, head: &'static str, cases: &[Damaged]) -> Result<(), Fail> {
+    for &(rest, fault) in cases {
+        let text: ArrayString<256> = joined(&[head, rest])?;
+        assert!(rt; refuses(text.as_bytes(), fault)?, "{}", rest);
     }
     Ok(())
 }
@@ -212,61 +193,58 @@ fn refuses_all(rt: &impl Abort, head: &str, cases: &[Damaged]) -> Result<(), Fai
 /// What stands between the parts of a line, and what behind the line.
 #[derive(Clone, Copy)]
 pub struct Spacing {
-    pub gap: &'static [u8],
-    pub turn: &'static [u8],
+    pub gap: &'static str,
+    pub turn: &'static str,
 }
 
 /// The spacing of a canonical text.
 pub const CANONICAL: Spacing = Spacing {
-    gap: b" ",
-    turn: b"\n",
+    gap: " ",
+    turn: "\n",
 };
 
 /// Another spacing.
 const WIDE: Spacing = Spacing {
-    gap: b"\n \n",
-    turn: b" \n ",
+    gap: "\n \n",
+    turn: " \n ",
 };
 
-/// Puts the two rows of a state and an input of the largest book: up to a day, and from there on.
-fn put_rows(out: &mut [u8], at: usize, spacing: Spacing, state: u8, input: u8) -> usize {
+/// Writes the two rows of a state and an input of the largest book: up to a day, and from there on.
+fn write_rows(
+    text: &mut ArrayString<ROOM>,
+    spacing: Spacing,
+    state: u16,
+    input: u16,
+) -> fmt::Result {
     let Spacing { gap, turn } = spacing;
-    let day = (state as u16 + input as u16).min(31);
-    let next = 15u8.saturating_sub(state) as u16;
-    let at = put_number(out, at, b"", state as u16, gap);
-    let at = put_number(out, at, b"", input as u16, gap);
-    let at = put_number(out, at, b"[0,", day, b"]");
-    let at = put_number(out, at, gap, day, gap);
-    let at = put_number(out, at, b"", next, turn);
-    let at = put_number(out, at, b"", state as u16, gap);
-    let at = put_number(out, at, b"", input as u16, gap);
-    let at = put_number(out, at, b"(", day, b",31)");
-    let at = put_number(out, at, gap, 31 - day, gap);
-    put_number(out, at, b"", next, turn)
+    let day = state.saturating_add(input).min(31);
+    let rest = 31 - day;
+    let next = 15u16.saturating_sub(state);
+    write!(
+        text,
+        "{state}{gap}{input}{gap}[0,{day}]{gap}{day}{gap}{next}{turn}"
+    )?;
+    write!(
+        text,
+        "{state}{gap}{input}{gap}({day},31){gap}{rest}{gap}{next}{turn}"
+    )
 }
 
-/// Puts the text of a book with 16 states and 256 rows.
-pub fn put_largest(out: &mut [u8], spacing: Spacing) -> usize {
+/// The text of a book with 16 states and 256 rows.
+pub fn largest(spacing: Spacing) -> Result<ArrayString<ROOM>, Fail> {
+    let mut text = ArrayString::new();
     let turn = spacing.turn;
-    let mut at = put_number(out, 0, b"inputs ", 8, turn);
-    at = put_number(out, at, b"outputs ", 32, turn);
-    at = put_number(out, at, b"states ", 16, turn);
-    for state in 0..16u8 {
-        at = put_number(
-            out,
-            at,
-            b"hold 31 ",
-            15u8.saturating_sub(state) as u16,
-            turn,
-        );
+    write!(text, "inputs 8{turn}outputs 32{turn}states 16{turn}")?;
+    for target in (0..16).rev() {
+        write!(text, "hold 31 {target}{turn}")?;
     }
-    at = put_number(out, at, b"rows ", 256, turn);
+    write!(text, "rows 256{turn}")?;
     for state in 0..16 {
         for input in 0..8 {
-            at = put_rows(out, at, spacing, state, input);
+            write_rows(&mut text, spacing, state, input)?;
         }
     }
-    at
+    Ok(text)
 }
 
 #[test]
@@ -283,21 +261,11 @@ fn damaged_texts(rt: HostRuntime) -> Result<(), Fail> {
 #[test]
 fn sound_texts(rt: HostRuntime) -> Result<(), Fail> {
     for (text, used, canonical) in SOUND {
-        assert!(rt;
-            reads(text.as_bytes(), used, canonical.as_bytes())?,
-            "{}",
-            text
-        );
+        assert!(rt; reads(text.as_bytes(), used, canonical)?, "{}", text);
     }
     for behind in BEHIND {
-        let mut text = [0; 256];
-        let at = put(&mut text, 0, PLAIN.as_bytes());
-        let end = put(&mut text, at, behind.as_bytes()).min(text.len());
-        assert!(rt;
-            reads(&text[0..end], 55, PLAIN_LINES.as_bytes())?,
-            "{}",
-            behind
-        );
+        let text: ArrayString<256> = joined(&[PLAIN, behind])?;
+        assert!(rt; reads(text.as_bytes(), 55, PLAIN_LINES)?, "{}", behind);
     }
     Ok(())
 }
@@ -314,7 +282,7 @@ fn texts_at_the_longest(rt: HostRuntime) -> Result<(), Fail> {
     let sound = [(0, 55), (15945, 16000), (16329, 16384)];
     for (at, used) in sound {
         let text = padded(at, PLAIN);
-        assert!(rt; reads(&text[0..16384], used, PLAIN_LINES.as_bytes())?);
+        assert!(rt; reads(&text[0..16384], used, PLAIN_LINES)?);
         assert!(rt; refuses(&text, "10 text 16384")?);
     }
     assert!(rt; refuses(&padded(16329, PLAIN)[0..16383], "12 text 16383")?);
@@ -327,21 +295,19 @@ fn texts_at_the_longest(rt: HostRuntime) -> Result<(), Fail> {
 
 /// Whether the largest book is refused once its last row has this guard.
 fn refuses_last(guard: &str, fault: &str) -> Result<bool, Fail> {
-    let mut text = [0; ROOM];
-    let _ = put_largest(&mut text, CANONICAL);
+    let mut text = [0; 4464];
+    let _ = put(&mut text, 0, largest(CANONICAL)?.as_bytes());
     let _ = put(&mut text, 4452, guard.as_bytes());
-    refuses(&text[0..4464], fault)
+    refuses(&text, fault)
 }
 
 #[test]
 fn the_largest_book(rt: HostRuntime) -> Result<(), Fail> {
-    let mut text = [0; ROOM];
-    let end = put_largest(&mut text, CANONICAL);
-    let mut wide = [0; ROOM];
-    let end_of_wide = put_largest(&mut wide, WIDE);
-    assert!(rt; end == 4464 && end_of_wide == 7064);
-    assert!(rt; reads(&text[0..4464], 4463, &text[0..4464])?);
-    assert!(rt; reads(&wide[0..7064], 7061, &text[0..4464])?);
+    let text = largest(CANONICAL)?;
+    let wide = largest(WIDE)?;
+    assert_eq!(rt; (text.len(), wide.len()), (4464, 7064));
+    assert!(rt; reads(text.as_bytes(), 4463, text.as_str())?);
+    assert!(rt; reads(wide.as_bytes(), 7061, text.as_str())?);
     let cases = [
         ("(31,31)", "21 table 255"),
         ("(22,31]", "22 table 255"),
@@ -365,22 +331,16 @@ fn books_follow_each_other(rt: HostRuntime) -> Result<(), Fail> {
     let at = put(&mut text, at, TWO_DAYS.as_bytes());
     let _ = put(&mut text, at, b"inputs 9");
     let mut book = book(PLAIN)?;
-    let Ok(first) = book.read(&text) else {
-        return Err(Fail::new("refused"));
-    };
-    assert!(rt; first == 80 && is_written(&book, ONE_DAY.as_bytes()));
-    let Ok(second) = book.read_from(&text, first) else {
-        return Err(Fail::new("refused"));
-    };
-    assert!(rt; second == 161 && is_written(&book, TWO_DAYS.as_bytes()));
-    match book.read_from(&text, second) {
-        Ok(_) => return Err(Fail::new("not refused")),
-        Err(fault) => assert!(rt; is_fault(fault, "13 text 169")),
+    let first = book.read(&text)?;
+    assert!(rt; first == 80 && is_written(&book, ONE_DAY)?);
+    let second = book.read_from(&text, first)?;
+    assert!(rt; second == 161 && is_written(&book, TWO_DAYS)?);
+    for (from, fault) in [(second, "13 text 169"), (170, "12 text 256")] {
+        let Err(found) = book.read_from(&text, from) else {
+            return Err(Fail::new("not refused"));
+        };
+        assert!(rt; is_fault(found, fault)?);
     }
-    match book.read_from(&text, 170) {
-        Ok(_) => return Err(Fail::new("not refused")),
-        Err(fault) => assert!(rt; is_fault(fault, "12 text 256")),
-    }
-    assert!(rt; is_written(&book, TWO_DAYS.as_bytes()));
+    assert!(rt; is_written(&book, TWO_DAYS)?);
     Ok(())
 }

@@ -3,10 +3,10 @@
 use crate::books::*;
 use crate::machines::book;
 use crate::reading::*;
+use arrayvec::ArrayString;
 use std::process::Abort;
 use std::test::Fail;
 use table::book::Book;
-use text::put::put;
 
 /// Canonical texts of many kinds of books.
 const VARIED: [&str; 12] = [
@@ -30,69 +30,50 @@ const REST: [&str; 9] = ["", " ", "\n \n", "x", "rows 2", "0123", "\0", ")", PLA
 /// What a buffer holds before it is written to.
 const UNTOUCHED: u8 = b'~';
 
-/// Whether all bytes are as they were before.
-fn is_untouched(bytes: &[u8]) -> bool {
-    for byte in bytes {
-        if *byte != UNTOUCHED {
-            return false;
-        }
-    }
-    true
-}
-
-/// Whether the book finds no room in the buffer and leaves it as it was.
-fn is_too_short(book: &Book, buffer: &mut [u8]) -> bool {
+/// Whether the book finds no room in the buffer and leaves it as it was. The refusal is what is tried, so it is taken apart.
+fn is_too_short(book: &Book, buffer: &mut [u8]) -> Result<bool, Fail> {
     match book.write(buffer) {
-        Ok(_) => false,
-        Err(fault) => is_fault(fault, "16 text") && is_untouched(buffer),
+        Ok(_) => Ok(false),
+        Err(fault) => Ok(is_fault(fault, "16 text")? && are_all(buffer, UNTOUCHED)),
     }
 }
 
 /// Whether the book writes the text to the buffer and keeps what is behind it.
-fn fills(book: &Book, buffer: &mut [u8], text: &[u8]) -> bool {
-    match book.write(buffer) {
-        Ok(filled) => {
-            let filled = filled.min(buffer.len());
-            &buffer[0..filled] == text && is_untouched(&buffer[filled..])
-        }
-        Err(_) => false,
-    }
+fn fills(book: &Book, buffer: &mut [u8], text: &str) -> Result<bool, Fail> {
+    let filled = book.write(buffer)?.min(buffer.len());
+    let (written, rest) = buffer.split_at(filled);
+    Ok(written == text.as_bytes() && are_all(rest, UNTOUCHED))
 }
 
-/// Whether the text is read as the book that it was written of, whatever stands behind it.
-fn reads_back(rt: &impl Abort, text: &[u8]) -> Result<(), Fail> {
+/// Tries that the text is read as the book that it was written of, whatever stands behind it.
+fn reads_back(rt: &impl Abort, text: &str) -> Result<(), Fail> {
+    let used = text.len().saturating_sub(1);
     for behind in REST {
-        let mut longer = [UNTOUCHED; ROOM];
-        let at = put(&mut longer, 0, text);
-        let end = put(&mut longer, at, behind.as_bytes()).min(longer.len());
-        assert!(rt;
-            reads(&longer[0..end], text.len().saturating_sub(1), text)?,
-            "{}",
-            behind
-        );
+        let longer: ArrayString<ROOM> = joined(&[text, behind])?;
+        assert!(rt; reads(longer.as_bytes(), used, text)?, "{}", behind);
     }
     Ok(())
 }
 
 /// Writes the book to buffers of several lengths, and reads back what was written.
-fn try_book(rt: &impl Abort, book: &Book, text: &[u8]) -> Result<(), Fail> {
+fn try_book(rt: &impl Abort, book: &Book, text: &str) -> Result<(), Fail> {
     let length = text.len();
     assert!(rt; 0 < length && length < ROOM);
-    assert!(rt; is_too_short(book, &mut []), "empty");
+    assert!(rt; is_too_short(book, &mut [])?, "empty");
     assert!(rt;
-        is_too_short(book, &mut [UNTOUCHED; ROOM][0..length - 1]),
+        is_too_short(book, &mut [UNTOUCHED; ROOM][..length - 1])?,
         "one short"
     );
     assert!(rt;
-        fills(book, &mut [UNTOUCHED; ROOM][0..length], text),
+        fills(book, &mut [UNTOUCHED; ROOM][..length], text)?,
         "just enough"
     );
     assert!(rt;
-        fills(book, &mut [UNTOUCHED; ROOM][0..length + 1], text),
+        fills(book, &mut [UNTOUCHED; ROOM][..length + 1], text)?,
         "one to spare"
     );
     assert!(rt;
-        fills(book, &mut [UNTOUCHED; ROOM], text),
+        fills(book, &mut [UNTOUCHED; ROOM], text)?,
         "more than enough"
     );
     reads_back(rt, text)
@@ -100,18 +81,13 @@ fn try_book(rt: &impl Abort, book: &Book, text: &[u8]) -> Result<(), Fail> {
 
 #[test]
 fn books_are_read_back(rt: HostRuntime) -> Result<(), Fail> {
-    try_book(&rt, &Book::new(), PLAIN_LINES.as_bytes())?;
+    try_book(&rt, &Book::new(), PLAIN_LINES)?;
     for text in VARIED {
-        try_book(&rt, &book(text)?, text.as_bytes())?;
+        try_book(&rt, &book(text)?, text)?;
     }
     for (text, _, canonical) in SOUND {
-        try_book(&rt, &book(text)?, canonical.as_bytes())?;
+        try_book(&rt, &book(text)?, canonical)?;
     }
-    let mut text = [0; ROOM];
-    let end = put_largest(&mut text, CANONICAL).min(ROOM);
-    let mut book = Book::new();
-    match book.read(&text[0..end]) {
-        Ok(_) => try_book(&rt, &book, &text[0..end]),
-        Err(_) => Err(Fail::new("refused")),
-    }
+    let text = largest(CANONICAL)?;
+    try_book(&rt, &book(text.as_str())?, text.as_str())
 }

@@ -4,7 +4,7 @@
 
 ghost use Rattle.std.specs.Prelude.{◌≤◌, length, IfOk};
 
-use anyhow::anyhow;
+use anyhow::Context;
 use compare::cell::BLANK;
 use compare::judge::judge;
 use std::io;
@@ -22,41 +22,30 @@ const ENTRIES: usize = 1_024;
 const REPORT_BYTES: usize = 16_384;
 
 // Reads until the input ends or the buffer is full, and answers how many bytes came.
-fn read_input(rt: &HostRuntime, buffer: &mut [u8]) -> io::Result<usize>
+fn read_input(input: impl Read + Drop, buffer: &mut [u8]) -> io::Result<usize>
     ensures { IfOk result (λ n. n ≤ length buffer.old) }
 {
-    let mut input = rt.stdin();
-    let mut length = 0;
-    while length < buffer.len() {
-        let count = input.read(&mut buffer[length..])?;
-        if count == 0 {
-            break;
-        }
-        length += count;
-    }
-    Ok(length)
+    let size = buffer.len();
+    let mut rest = buffer;
+    let count = io::copy(&mut input.take(size as u64), &mut rest)?;
+    // The library bounds the count only where it knows what the input holds.
+    Ok((count as usize).min(size))
 }
 
 // Judges the input and prints the report.
-fn print_report(rt: &HostRuntime, input: &[u8]) -> anyhow::Result<()> {
+fn print_report(mut output: impl Write + Drop, input: &[u8]) -> anyhow::Result<()> {
     let mut cells = [BLANK; CELLS];
     let mut word = [Entry { wait: 0, input: 0 }; ENTRIES];
     let mut report = [0; REPORT_BYTES];
-    match judge(input, &mut cells, &mut word, &mut report) {
-        Ok(filled) => {
-            rt.stdout().write_all(&report[0..filled])?;
-            Ok(())
-        }
-        Err(_) => Err(anyhow!("the report does not fit its buffer")),
-    }
-}
-
-fn run(rt: &HostRuntime) -> anyhow::Result<()> {
-    let mut input = [0; INPUT_BYTES];
-    let length = read_input(rt, &mut input)?;
-    print_report(rt, &input[0..length])
+    let filled = judge(input, &mut cells, &mut word, &mut report)
+        .ok()
+        .context("the report does not fit its buffer")?;
+    output.write_all(&report[..filled])?;
+    Ok(())
 }
 
 fn main(rt: HostRuntime) -> anyhow::Result<()> {
-    run(&rt)
+    let mut input = [0; INPUT_BYTES];
+    let length = read_input(rt.stdin(), &mut input)?;
+    print_report(rt.stdout(), &input[..length])
 }

@@ -1,30 +1,24 @@
 -- The check of a draft finds nothing exactly in a sound table, and else exactly the first fault.
 use Rattle.std.proofs.Common.{◌≡◌, ℕ, zero, suc, ◌<◌, ◌≤◌, Bool, true, false, cond, eqb, ◌⊎◌, Some, None, Option, sym, refl, ap, ◌∙◌, subst, inl, inr, ⊎_elim, arith}
-use Rattle.std.proofs.lemmas.Bool.{both_ways, and_parts, and_from, and_left, cases_order, cond-true, cond-false, cond_both, eqb-true, eq-eqb}
+use Rattle.std.specs.Option.{option_or}
+use Rattle.std.proofs.lemmas.Bool.{both_ways, and_parts, and_from, and_left, cases_order, cond-true, cond-false, cond_both, eqb-true, eq-eqb, false_from_ne_true, true_from_ne_false}
 use Rattle.text.specs.declared.draft.Draft.{Draft}
 use Rattle.text.specs.Draft.{row_at, state_at, Ranged}
+use Rattle.table.specs.declared.fault.Spot.{Spot}
 use Rattle.table.specs.declared.fault.TableFault.{TableFault}
 use Rattle.table.specs.declared.fault.TableFault.TheVariants.{Text, EmptyGuard, PastTimeout, TwoRows, NoRow, Landings, QuietDays, Output}
 use Rattle.table.specs.Clocks.{Contains}
-use Rattle.table.specs.First.{then, first}
+use Rattle.table.specs.First.{first}
 use Rattle.table.specs.Guard.{empty}
 use Rattle.table.specs.Rows.{belongs_at, covers_at, rows_of, rows_at}
-use Rattle.table.specs.Sound.{Sound, past_timeout, row_fault, count_fault, stretch_fault, input_fault, state_fault, draft_fault}
+use Rattle.table.specs.Sound.{Sound, spot, past_timeout, row_fault, count_fault, stretch_fault, input_fault, state_fault, draft_fault}
 use Rattle.table.specs.Soundness.{Answers, Spotted, SoundTable, Has, Turn, turn, Earlier, FirstFault, ChecksRight}
 use Rattle.table.specs.Stretch.{stretches}
-use Rattle.table.specs.Firsts.{then_none, first_at, first_none, first_from, first_all, no_answer, none_some}
+use Rattle.table.specs.Firsts.{or_none, first_at, first_none, first_from, first_all, no_answer, none_some}
 use Rattle.table.proofs.GuardClocks.{empty_right, some_right, past_right, past_found, past_some, contains_right, contains_found}
 use Rattle.table.proofs.Soundness.{faultless_sound}
 use Rattle.table.specs.Stretches.{some_stretch}
 use Rattle.table.specs.Tally.{tally_none, tally_some, tally_two, tally_only, tally_passes, tally_pair}
-
-is_false : (b : Bool) → (b ≡ true → ⊥) → b ≡ false
-is_false true h = absurd (h refl)
-is_false false h = refl
-
-is_true : (b : Bool) → (b ≡ false → ⊥) → b ≡ true
-is_true true h = refl
-is_true false h = absurd (h refl)
 
 -- a row answers where its test passes, and only there
 module _ (d : Draft) (s i r : ℕ) where
@@ -47,7 +41,7 @@ module _ (d : Draft) (s i r : ℕ) where
   none_answers l e k a = let h = tally_some (covers_at d s i r) d.rows.count k a.row_in (answers_covers k l a) in omega arith
 
   answers_none : ((k : ℕ) → Answers d s i r k → ⊥) → rows_at d s i r ≡ 0
-  answers_none h = tally_none (covers_at d s i r) d.rows.count (λ k l. is_false _ (λ e. h k (covers_answers k l e)))
+  answers_none h = tally_none (covers_at d s i r) d.rows.count (λ k l. false_from_ne_true _ (λ e. h k (covers_answers k l e)))
 
   two_answer : 2 ≤ rows_at d s i r → (j : ℕ) × (k : ℕ) × (j < k) × Answers d s i r j × Answers d s i r k
   two_answer l =
@@ -69,18 +63,18 @@ pub sound_table : (d : Draft) → Sound d → SoundTable d
 sound_table d g = record {
   none_empty = λ k l. some_right (row_at d k).guard (g.none_empty k l);
   none_past = λ k l p. both_ways _ (g.none_past k l) (past_found (state_at d (row_at d k).state) (row_at d k).guard p);
-  one_row = λ s i r p. one_answers d s i r p.2 (g.one_row (record { state = s; input = i; stretch = r; state_in = p.0; input_in = p.1; stretch_in = p.2 }));
+  one_row = λ s i r p. one_answers d s i r p.2 (g.one_row s i r p.0 p.1 p.2);
 }
 
 sound_none : (d : Draft) → SoundTable d → (f : TableFault) → Has d f → ⊥
 sound_none d t (Text f) h = h
 sound_none d t (EmptyGuard k) h = t.none_empty k h.0 h.1
 sound_none d t (PastTimeout k) h = t.none_past k h.0 h.1
-sound_none d t (TwoRows s i r) h =
-    let one = t.one_row s i r h.0 in
+sound_none d t (TwoRows p) h =
+    let one = t.one_row p.state p.input p.stretch h.0 in
     let two = h.1 in
     omega (arith, two.2, one.2 two.0 two.3, one.2 two.1 two.4)
-sound_none d t (NoRow s i r) h = let one = t.one_row s i r h.0 in h.1 one.0 one.1
+sound_none d t (NoRow p) h = let one = t.one_row p.state p.input p.stretch h.0 in h.1 one.0 one.1
 sound_none d t Landings h = h
 sound_none d t QuietDays h = h
 sound_none d t (Output k) h = h
@@ -88,17 +82,17 @@ sound_none d t (Output k) h = h
 either_fault : {X : Type 0} (a b : Bool) (x y z : X) → cond a (Some x) (cond b (Some y) None) ≡ Some z → ((a ≡ true) × (z ≡ x)) ⊎ ((a ≡ false) × (b ≡ true) × (z ≡ y))
 either_fault true b x y z e = inl (refl, cc)
 either_fault false true x y z e = inr (refl, refl, cc)
-either_fault false false x y z e = absurd (let w : ◌≡◌ {A = ℕ} 0 1 = cc in omega arith)
+either_fault false false x y z e = cc
 
-count_cases : (s i r n : ℕ) (f : TableFault) → count_fault s i r n ≡ Some f → ((n ≡ 0) × (f ≡ NoRow s i r)) ⊎ ((2 ≤ n) × (f ≡ TwoRows s i r))
-count_cases s i r zero f e = inl (refl, cc)
-count_cases s i r (suc zero) f e = absurd (let w : ◌≡◌ {A = ℕ} 0 1 = cc in omega arith)
-count_cases s i r (suc (suc n)) f e = inr (omega arith, cc)
+count_cases : (p : Spot) (n : ℕ) (f : TableFault) → count_fault p n ≡ Some f → ((n ≡ 0) × (f ≡ NoRow p)) ⊎ ((2 ≤ n) × (f ≡ TwoRows p))
+count_cases p zero f e = inl (refl, cc)
+count_cases p (suc zero) f e = cc
+count_cases p (suc (suc n)) f e = inr (omega arith, cc)
 
-count_two : (s i r n : ℕ) → 2 ≤ n → count_fault s i r n ≡ Some (TwoRows s i r)
-count_two s i r zero l = absurd (omega arith)
-count_two s i r (suc zero) l = absurd (omega arith)
-count_two s i r (suc (suc n)) l = refl
+count_two : (p : Spot) (n : ℕ) → 2 ≤ n → count_fault p n ≡ Some (TwoRows p)
+count_two p zero l = absurd (omega arith)
+count_two p (suc zero) l = absurd (omega arith)
+count_two p (suc (suc n)) l = refl
 
 -- the look at a row finds the fault
 record RowFound (d : Draft) (f : TableFault) : Type 0 where
@@ -135,17 +129,17 @@ module _ (d : Draft) where
       ⊎_elim
       (λ b. subst (Has d) (sym b.1) (p, none_answers d s i r p.2 b.0))
       (λ b. subst (Has d) (sym b.1) (p, two_answer d s i r b.0))
-      (count_cases s i r (rows_at d s i r) f e)
+      (count_cases (spot s i r) (rows_at d s i r) f e)
 
   spot_turn : (s i r : ℕ) (f : TableFault) → stretch_fault d s i r ≡ Some f → turn f ≡ (2, s, i, r)
   spot_turn s i r f e =
       let P : TableFault → Type 0 = λ x. turn x ≡ (2, s, i, r) in
-      ⊎_elim (λ b. subst P (sym b.1) refl) (λ b. subst P (sym b.1) refl) (count_cases s i r (rows_at d s i r) f e)
+      ⊎_elim (λ b. subst P (sym b.1) refl) (λ b. subst P (sym b.1) refl) (count_cases (spot s i r) (rows_at d s i r) f e)
 
   -- a fault that the table has is found where it lies
   has_found : (f : TableFault) → Has d f → RowFound d f ⊎ SpotFound d f
   has_found (Text f) h = absurd h
-  has_found (EmptyGuard k) h = inl (record { row = k; row_in = h.0; is = cond-true _ _ _ (is_true _ (λ e. some_right (row_at d k).guard e h.1)) })
+  has_found (EmptyGuard k) h = inl (record { row = k; row_in = h.0; is = cond-true _ _ _ (true_from_ne_false _ (λ e. some_right (row_at d k).guard e h.1)) })
   has_found (PastTimeout k) h =
       inl
       (record {
@@ -155,10 +149,11 @@ module _ (d : Draft) where
             cond-false _ _ _ (past_some (state_at d (row_at d k).state) (row_at d k).guard h.1)
             ∙ cond-true _ _ _ (past_found (state_at d (row_at d k).state) (row_at d k).guard h.1);
       })
-  has_found (TwoRows s i r) h =
+  has_found (TwoRows p) h =
       let two = h.1 in
-      inr (record { state = s; input = i; stretch = r; spotted = h.0; is = count_two s i r (rows_at d s i r) (answers_two d s i r h.0.2 two.0 two.1 two.2 two.3 two.4) })
-  has_found (NoRow s i r) h = inr (record { state = s; input = i; stretch = r; spotted = h.0; is = ap (count_fault s i r) (answers_none d s i r h.1) })
+      let some = answers_two d p.state p.input p.stretch h.0.2 two.0 two.1 two.2 two.3 two.4 in
+      inr (record { state = p.state; input = p.input; stretch = p.stretch; spotted = h.0; is = count_two p (rows_at d p.state p.input p.stretch) some })
+  has_found (NoRow p) h = inr (record { state = p.state; input = p.input; stretch = p.stretch; spotted = h.0; is = ap (count_fault p) (answers_none d p.state p.input p.stretch h.1) })
   has_found Landings h = absurd h
   has_found QuietDays h = absurd h
   has_found (Output k) h = absurd h
@@ -167,7 +162,7 @@ module _ (d : Draft) where
   no_rows : (s i r : ℕ) → rows_of d s i ≡ 0 → rows_at d s i r ≡ 0
   no_rows s i r e =
       tally_none (covers_at d s i r) d.rows.count
-      (λ k l. and_left _ _ (is_false (belongs_at d s i k) (λ b. let h = tally_some (belongs_at d s i) d.rows.count k l b in omega arith)))
+      (λ k l. and_left _ _ (false_from_ne_true (belongs_at d s i k) (λ b. let h = tally_some (belongs_at d s i) d.rows.count k l b in omega arith)))
 
 never_earlier : (t : Turn) → Earlier t t → ⊥
 never_earlier t e =
@@ -201,8 +196,8 @@ module _ (d : Draft) (g : Ranged d) where
   -- the early look at a state and an input with no row finds what the walk would
   input_is : (s i : ℕ) → s < d.states.count → input_fault d s i ≡ first (stretch_fault d s i) (stretches d s)
   input_is s i l =
-      cond_both (eqb (rows_of d s i) 0) (Some (NoRow s i 0)) (first (stretch_fault d s i) (stretches d s)) (λ o. o ≡ first (stretch_fault d s i) (stretches d s))
-      (λ e. sym (first_at (stretch_fault d s i) 0 (stretches d s) (NoRow s i 0) (some_stretch d g s l) refl (ap (count_fault s i 0) (no_rows d s i 0 (eqb-true _ _ e)))))
+      cond_both (eqb (rows_of d s i) 0) (Some (NoRow (spot s i 0))) (first (stretch_fault d s i) (stretches d s)) (λ o. o ≡ first (stretch_fault d s i) (stretches d s))
+      (λ e. sym (first_at (stretch_fault d s i) 0 (stretches d s) (NoRow (spot s i 0)) (some_stretch d g s l) refl (ap (count_fault (spot s i 0)) (no_rows d s i 0 (eqb-true _ _ e)))))
       (λ e. refl)
 
   input_clear : (s i r : ℕ) → Spotted d s i r → input_fault d s i ≡ None → stretch_fault d s i r ≡ None
@@ -220,7 +215,7 @@ module _ (d : Draft) (g : Ranged d) where
   -- where the table has no fault, none is found
   clear_draft : ((f : TableFault) → Has d f → ⊥) → draft_fault d ≡ None
   clear_draft h =
-      then_none _ _ (first_all (row_fault d) d.rows.count (λ k l. no_answer _ (λ f e. h f (row_has d k f l e))))
+      or_none _ _ (first_all (row_fault d) d.rows.count (λ k l. no_answer _ (λ f e. h f (row_has d k f l e))))
       ∙ first_all (state_fault d) d.states.count (λ s l. clear_state s l (λ i r p. no_answer _ (λ f e. h f (spot_has d s i r f p e))))
 
   first_row : (f : TableFault) → first (row_fault d) d.rows.count ≡ Some f → FirstFault d f
@@ -278,7 +273,7 @@ module _ (d : Draft) (g : Ranged d) where
             (has_found d h has);
       }
 
-  found_go : (f : TableFault) (o : Option TableFault) → first (row_fault d) d.rows.count ≡ o → then o (first (state_fault d) d.states.count) ≡ Some f → FirstFault d f
+  found_go : (f : TableFault) (o : Option TableFault) → first (row_fault d) d.rows.count ≡ o → option_or o (first (state_fault d) d.states.count) ≡ Some f → FirstFault d f
   found_go f (Some x) p e = first_row f (p ∙ e)
   found_go f None p e = first_spot f p e
 
@@ -295,7 +290,7 @@ module _ (d : Draft) (g : Ranged d) where
 
     row_first : draft_fault d ≡ Some f
     row_first =
-        ap (λ o. then o (first (state_fault d) d.states.count))
+        ap (λ o. option_or o (first (state_fault d) d.states.count))
         (first_at (row_fault d) a.row d.rows.count f a.row_in (first_all (row_fault d) a.row no_row_before) a.is)
 
   -- a first fault that lies at a state, an input and a stretch is found
@@ -334,7 +329,7 @@ module _ (d : Draft) (g : Ranged d) where
 
     spot_first : draft_fault d ≡ Some f
     spot_first =
-        then_none _ _ (first_all (row_fault d) d.rows.count no_row)
+        or_none _ _ (first_all (row_fault d) d.rows.count no_row)
         ∙ first_at (state_fault d) a.state d.states.count f a.spotted.0 (first_all _ a.state no_state_before) input_first
 
   first_found : (f : TableFault) → FirstFault d f → draft_fault d ≡ Some f

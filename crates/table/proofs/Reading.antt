@@ -6,13 +6,14 @@ use Rattle.text.specs.declared.fault.TextFault.{TextFault}
 use Rattle.text.specs.Draft.{Ranged}
 use Rattle.text.specs.Grammar.{reading}
 use Rattle.text.specs.Limits.{max_bytes}
-use Rattle.text.specs.Write.{canonical}
+use Rattle.text.specs.Write.{canonical, filled}
 use Rattle.text.proofs.Exactly.{reads_exactly as drafts_exactly, reads_back as drafts_back}
 use Rattle.text.proofs.Refusals.{refuses_exactly as drafts_refused}
 use Rattle.table.specs.declared.book.Book.{Book}
 use Rattle.table.specs.declared.fault.TableFault.{TableFault}
 use Rattle.table.specs.declared.fault.TableFault.TheVariants.{Text}
-use Rattle.table.specs.Read.{unless_fault, sound_draft, book_reading, ReadsAs, WritesBook, ReadsExactly, RefusesText, ChecksTable, ReadsBack, OnlyText}
+use Rattle.table.specs.First.{unless_fault}
+use Rattle.table.specs.Read.{sound_draft, book_reading, ReadsAs, WritesBook, ReadsExactly, RefusesText, ChecksTable, ReadsBook, ReadsBack, OnlyText, book_written, WritesText}
 use Rattle.table.specs.Sound.{draft_fault}
 use Rattle.table.specs.Books.{book_sound, book_formed}
 use Rattle.table.proofs.Checks.{checks_right, sound_table}
@@ -32,44 +33,30 @@ reading_of_book t from b to e = book_of_draft t from (b.draft, to) e ∙ ap (λ 
 -- a book that was read is the draft of its text
 unless_ok : {A : Type 0} (o : Option TableFault) (a c : A) → unless_fault o a ≡ Ok c → a ≡ c
 unless_ok None a c e = cc
-unless_ok (Some f) a c e = absurd (let z : ◌≡◌ {A = ℕ} 0 1 = cc in omega arith)
+unless_ok (Some f) a c e = cc
 
 draft_read : (r : Result (Draft × ℕ) TextFault) (p : Draft × ℕ) → sound_draft r ≡ Ok p → r ≡ Ok p
 draft_read (Ok q) p e = ap Ok (unless_ok (draft_fault q.0) q p e)
-draft_read (Err f) p e = absurd (let z : ◌≡◌ {A = ℕ} 0 1 = cc in omega arith)
+draft_read (Err f) p e = grind arith
 
 -- what the answer tells of the reading
 
-ok_same : {A E : Type 0} (a b : A) → ◌≡◌ {A = Result A E} (Ok a) (Ok b) → a ≡ b
-ok_same a b e = cc
-
-err_same : {A E : Type 0} (e f : E) → ◌≡◌ {A = Result A E} (Err e) (Err f) → e ≡ f
-err_same e f h = cc
-
-some_same : {A : Type 0} (a b : A) → ◌≡◌ {A = Option A} (Some a) (Some b) → a ≡ b
-some_same a b e = cc
-
 answered : (x : Result (Draft × ℕ) TableFault) (before after : Book) (r : Result ℕ TableFault) (to : ℕ) → ReadsAs x before after r → r ≡ Ok to → x ≡ Ok (after.draft, to)
-answered (Ok p) before after r to a e =
-    let place : p.1 ≡ to = ok_same p.1 to (sym a.1 ∙ e) in
-    λ i. Ok (sym a.0 i, place i)
-answered (Err f) before after r to a e = absurd (let z : ◌≡◌ {A = ℕ} 0 1 = cc in omega arith)
+answered (Ok p) before after r to a e = grind arith
+answered (Err f) before after r to a e = grind arith
 
 taken_as : (x : Result (Draft × ℕ) TableFault) (before after : Book) (r : Result ℕ TableFault) (d : Draft) (to : ℕ) → ReadsAs x before after r → x ≡ Ok (d, to) → (r ≡ Ok to) × (after.draft ≡ d)
 taken_as x before after r d to a e = let b = subst (λ y. ReadsAs y before after r) e a in (b.1, b.0)
 
 -- what a fault of the draft makes of the answer
 module _ (before after : Book) (r : Result ℕ TableFault) (p : Draft × ℕ) where
-  not_both : (n : ℕ) (f : TableFault) → r ≡ Ok n → r ≡ Err f → ⊥
-  not_both n f d e = let z : ◌≡◌ {A = ℕ} 0 1 = cc in omega arith
-
   none_taken : (o : Option TableFault) → ReadsAs (unless_fault o p) before after r → (r ≡ Ok p.1) ↔ (o ≡ None)
-  none_taken None a = (λ e. refl, λ e. a.1)
-  none_taken (Some g) a = (λ e. absurd (not_both p.1 g e a.1), λ e. absurd (let z : ◌≡◌ {A = ℕ} 0 1 = cc in omega arith))
+  none_taken None a = grind arith
+  none_taken (Some g) a = grind arith
 
   some_refused : (o : Option TableFault) (f : TableFault) → ReadsAs (unless_fault o p) before after r → (r ≡ Err f) ↔ (o ≡ Some f)
-  some_refused None f a = (λ e. absurd (not_both p.1 f a.1 e), λ e. absurd (let z : ◌≡◌ {A = ℕ} 0 1 = cc in omega arith))
-  some_refused (Some g) f a = (λ e. let same : g ≡ f = err_same g f (sym a.1 ∙ e) in ap Some same, λ e. let same : g ≡ f = some_same g f e in a.1 ∙ ap Err same)
+  some_refused None f a = grind arith
+  some_refused (Some g) f a = grind arith
 
 module _ (t : List ℕ) (from : ℕ) (before after : Book) (r : Result ℕ TableFault) (a : ReadsAs (book_reading t from) before after r) where
   read_writes : (b : Book) (to : ℕ) → (r ≡ Ok to) × (after ≡ b) → WritesBook t from b to
@@ -100,20 +87,17 @@ module _ (t : List ℕ) (from : ℕ) (before after : Book) (r : Result ℕ Table
 -- the answer is a fault of the text just where the reading is
 
 refused_as : (x : Result (Draft × ℕ) TableFault) (before after : Book) (r : Result ℕ TableFault) (f : TableFault) → ReadsAs x before after r → (r ≡ Err f) ↔ (x ≡ Err f)
-refused_as (Ok p) before after r f a = (λ e. absurd (let z : ◌≡◌ {A = ℕ} 0 1 = cc in omega arith), λ e. absurd (let z : ◌≡◌ {A = ℕ} 0 1 = cc in omega arith))
-refused_as (Err g) before after r f a = (λ e. ap Err (err_same g f (sym a.1 ∙ e)), λ e. a.1 ∙ ap Err (err_same g f e))
+refused_as (Ok p) before after r f a = grind arith
+refused_as (Err g) before after r f a = grind arith
 
 unless_some : {A : Type 0} (o : Option TableFault) (a : A) (f : TableFault) → unless_fault o a ≡ Err f → o ≡ Some f
-unless_some None a f e = absurd (let z : ◌≡◌ {A = ℕ} 0 1 = cc in omega arith)
-unless_some (Some g) a f e = ap Some (err_same g f e)
-
-text_same : (f g : TextFault) → Text f ≡ Text g → f ≡ g
-text_same f g e = cc
+unless_some None a f e = grind arith
+unless_some (Some g) a f e = grind arith
 
 -- no fault of a table is one of a text
 text_refused : (r : Result (Draft × ℕ) TextFault) (f : TextFault) → ((p : Draft × ℕ) → r ≡ Ok p → Ranged p.0) → sound_draft r ≡ Err (Text f) → r ≡ Err f
 text_refused (Ok p) f ranged e = absurd (((checks_right p.0 (ranged p refl)).first (Text f)).0 (unless_some (draft_fault p.0) p (Text f) e)).has
-text_refused (Err g) f ranged e = ap Err (text_same g f (err_same (Text g) (Text f) e))
+text_refused (Err g) f ranged e = grind arith
 
 module _ (t : List ℕ) (from : ℕ) (before after : Book) (r : Result ℕ TableFault) (a : ReadsAs (book_reading t from) before after r) where
   pub refuses_text : RefusesText t from r
@@ -121,6 +105,15 @@ module _ (t : List ℕ) (from : ℕ) (before after : Book) (r : Result ℕ Table
       let answer = refused_as (book_reading t from) before after r (Text f) a in
       let law = drafts_refused t from f in
       (λ e. law.0 (text_refused (reading t from) f (λ p is. ((drafts_exactly t from p.0 p.1).0 is).formed.ranged) (answer.0 e)), λ h. answer.1 (ap sound_draft (law.1 h)))
+
+-- how a text reads decides all that a call that reads it does
+pub reads_book : (t : List ℕ) (from : ℕ) (before after : Book) (r : Result ℕ TableFault) → ReadsAs (book_reading t from) before after r → ReadsBook t from before after r
+reads_book t from before after r a = record {
+  is = a;
+  exactly = reads_exactly t from before after r a;
+  refused = refuses_text t from before after r a;
+  checked = checks_table t from before after r a;
+}
 
 pub reads_back : (b : Book) → ReadsBack b
 reads_back b behind few = reading_of_book (canonical b.draft ++ behind) 0 b (length (canonical b.draft) - 1) (drafts_back b.draft (book_formed b) behind few)
@@ -133,5 +126,15 @@ only_text b few other same =
     let alone : canonical c.draft ++ [] ≡ canonical b.draft = append-nil (canonical c.draft) ∙ e in
     let short : length (canonical c.draft ++ []) ≤ max_bytes = subst (λ (t : List ℕ). length t ≤ max_bytes) (sym alone) few in
     ap (λ t. reading t 0) (sym alone) ∙ drafts_back c.draft (book_formed c) [] short ∙ ap (λ (t : List ℕ). Ok (c.draft, length t - 1)) e in
-    let both : ◌≡◌ {A = Draft × ℕ} (other.draft, length (canonical b.draft) - 1) (b.draft, length (canonical b.draft) - 1) = ok_same _ _ (sym (whole other same) ∙ whole b refl) in
+    let both : ◌≡◌ {A = Draft × ℕ} (other.draft, length (canonical b.draft) - 1) (b.draft, length (canonical b.draft) - 1) = (let e = sym (whole other same) ∙ whole b refl in cc) in
     same_book other b (ap (λ (p : Draft × ℕ). p.0) both)
+
+-- the text that was written decides all that a call that writes it does
+pub writes_text : (b : Book) (before after : List ℕ) (r : Result ℕ TableFault) → r ≡ book_written (canonical b.draft) before → after ≡ filled (canonical b.draft) before → length (canonical b.draft) ≤ max_bytes → WritesText b before after r
+writes_text b before after r a f s = record {
+  answers = a;
+  fills = f;
+  short = s;
+  back = reads_back b;
+  only = only_text b s;
+}

@@ -1,8 +1,7 @@
 -- Two books of one draft are the same.
-use Rattle.std.proofs.Common.{◌≡◌, ℕ, List, sym, ◌∙◌, subst, ⊎_elim}
+use Rattle.std.proofs.Common.{◌≡◌, ℕ, List, sym, ◌∙◌, subst, arith}
 use denote.Struct.Record.{values_one}
 use Rattle.std.proofs.lemmas.List.{ext_get_or}
-use Rattle.std.proofs.lemmas.Bool.{cases_lt}
 use Rattle.text.specs.declared.draft.Draft.{Draft}
 use Rattle.table.specs.declared.book.Book.{Book}
 use Rattle.table.specs.contracts.book.Book as contracts
@@ -10,9 +9,7 @@ use Rattle.table.specs.Offsets.{Offsets, ZerosBehind}
 
 -- a draft has one list of offsets
 one_list : (d : Draft) (os ps : List ℕ) → Offsets d os → ZerosBehind d os → Offsets d ps → ZerosBehind d ps → os ≡ ps
-one_list d os ps a y b z =
-    ext_get_or 0 os ps (y.0 ∙ sym z.0)
-    (λ s _. ⊎_elim (λ more. y.1 s more ∙ sym (z.1 s more)) (λ within. a s within ∙ sym (b s within)) (cases_lt d.states.count s))
+one_list d os ps a y b z = ext_get_or 0 os ps (y.0 ∙ sym z.0) (λ s _. grind arith)
 
 pub same_offsets : (b c : Book) → b.draft ≡ c.draft → b.offsets ≡ c.offsets
 same_offsets b c e =

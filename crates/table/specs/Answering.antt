@@ -53,7 +53,7 @@ after_valid d g p v = step_valid d (state_at d p.0) p.0 p.1 g v.state_in v.stret
 
 module _ (d : Draft) (g : Sound d) where
   pub answering : (s i r : ℕ) → s < d.states.count → i < d.inputs → r < stretches d s → Answering d s i r
-  answering s i r l m n = find d s i r (g.one_row (record { state = s; input = i; stretch = r; state_in = l; input_in = m; stretch_in = n })) (row_number d s i r) refl
+  answering s i r l m n = find d s i r (g.one_row s i r l m n) (row_number d s i r) refl
 
   pub row_is : (s i r : ℕ) (f : Answering d s i r) → answering_row d (s, r) i ≡ row_at d f.row
   row_is s i r f = ap (λ o. row_at d (found_number o)) f.is

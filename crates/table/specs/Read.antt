@@ -1,21 +1,18 @@
 -- Reading a book: the draft that a text writes, where the draft is sound; and what reading and writing promise, said without the reader's steps.
-use Rattle.std.specs.Prelude.{◌≡◌, ℕ, ◌-◌, ◌≤◌, ◌↔◌, List, ◌++◌, length, Some, None, Ok, Err, Option, Result}
+use Rattle.std.specs.Prelude.{◌≡◌, ℕ, ◌-◌, ◌≤◌, ◌↔◌, List, ◌++◌, length, Ok, Err, Result}
 use Rattle.text.specs.declared.draft.Draft.{Draft}
 use Rattle.text.specs.declared.fault.TextFault.{TextFault}
 use Rattle.text.specs.Grammar.{reading}
 use Rattle.text.specs.Limits.{max_bytes}
 use Rattle.text.specs.Parts.{PartsOf, Writes}
 use Rattle.text.specs.Refusal.{Refused}
-use Rattle.text.specs.Write.{canonical, written}
+use Rattle.text.specs.Write.{canonical, written, filled}
 use Rattle.table.specs.declared.book.Book.{Book}
 use Rattle.table.specs.declared.fault.TableFault.{TableFault}
 use Rattle.table.specs.declared.fault.TableFault.TheVariants.{Text}
+use Rattle.table.specs.First.{unless_fault}
 use Rattle.table.specs.Sound.{draft_fault}
 use Rattle.table.specs.Soundness.{SoundTable, FirstFault}
-
-abbrev pub unless_fault : {A : Type 0} → Option TableFault → A → Result A TableFault
-unless_fault None a = Ok a
-unless_fault (Some f) a = Err f
 
 -- a fault of the text comes before those of the table
 abbrev pub sound_draft : Result (Draft × ℕ) TextFault → Result (Draft × ℕ) TableFault
@@ -52,6 +49,13 @@ ChecksTable text from r = (d : Draft) (to : ℕ) → Writes text from d to → C
 abbrev pub RefusesText : List ℕ → ℕ → Result ℕ TableFault → Type 0
 RefusesText text from r = (f : TextFault) → (r ≡ Err (Text f)) ↔ Refused text from f
 
+-- what a call that reads a book from a place of a text on does: the caller's book before and after it, and its answer
+pub record ReadsBook (text : List ℕ) (from : ℕ) (before after : Book) (r : Result ℕ TableFault) : Type 0 where
+  pub is : ReadsAs (book_reading text from) before after r
+  pub exactly : ReadsExactly text from after r
+  pub refused : RefusesText text from r
+  pub checked : ChecksTable text from r
+
 -- the book's canonical text reads as the book whatever stands behind it, and takes all of it but the end of its last line
 abbrev pub ReadsBack : Book → Type 0
 ReadsBack b = (behind : List ℕ) → length (canonical b.draft ++ behind) ≤ max_bytes → book_reading (canonical b.draft ++ behind) 0 ≡ Ok (b.draft, length (canonical b.draft) - 1)
@@ -66,3 +70,12 @@ carried (Err f) = Err (Text f)
 
 abbrev pub book_written : List ℕ → List ℕ → Result ℕ TableFault
 book_written t buffer = carried (written t buffer)
+
+-- what a call that writes a book does: the caller's buffer before and after it, and its answer
+pub record WritesText (b : Book) (before after : List ℕ) (r : Result ℕ TableFault) : Type 0 where
+  pub answers : r ≡ book_written (canonical b.draft) before
+  pub fills : after ≡ filled (canonical b.draft) before
+  -- what is written is never too long to be read
+  pub short : length (canonical b.draft) ≤ max_bytes
+  pub back : ReadsBack b
+  pub only : OnlyText b

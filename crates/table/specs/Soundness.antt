@@ -30,8 +30,8 @@ abbrev pub Has : Draft → TableFault → Type 0
 Has d (Text f) = ⊥
 Has d (EmptyGuard k) = (k < d.rows.count) × Empty (row_at d k).guard
 Has d (PastTimeout k) = (k < d.rows.count) × Past (state_at d (row_at d k).state) (row_at d k).guard
-Has d (TwoRows s i r) = Spotted d s i r × ((j : ℕ) × (k : ℕ) × (j < k) × Answers d s i r j × Answers d s i r k)
-Has d (NoRow s i r) = Spotted d s i r × ((k : ℕ) → Answers d s i r k → ⊥)
+Has d (TwoRows p) = Spotted d p.state p.input p.stretch × ((j : ℕ) × (k : ℕ) × (j < k) × Answers d p.state p.input p.stretch j × Answers d p.state p.input p.stretch k)
+Has d (NoRow p) = Spotted d p.state p.input p.stretch × ((k : ℕ) → Answers d p.state p.input p.stretch k → ⊥)
 Has d Landings = ⊥
 Has d QuietDays = ⊥
 Has d (Output k) = ⊥
@@ -44,8 +44,8 @@ abbrev pub turn : TableFault → Turn
 turn (Text f) = (0, 0, 0, 0)
 turn (EmptyGuard k) = (1, k, 0, 0)
 turn (PastTimeout k) = (1, k, 1, 0)
-turn (TwoRows s i r) = (2, s, i, r)
-turn (NoRow s i r) = (2, s, i, r)
+turn (TwoRows p) = (2, p.state, p.input, p.stretch)
+turn (NoRow p) = (2, p.state, p.input, p.stretch)
 turn Landings = (0, 0, 0, 0)
 turn QuietDays = (0, 0, 0, 0)
 turn (Output k) = (0, 0, 0, 0)

@@ -17,7 +17,8 @@ end_yes d s i e = rw add-one (cond-true _ _ _ (eq-eqb _ _ e))
 pub end_no : (d : Draft) (s i : ℕ) → ((row_at d i).state ≢ s) → greatest_end d s (i + 1) ≡ greatest_end d s i
 end_no d s i e = rw add-one (cond-false _ _ _ (ne_eqb _ _ e))
 
-end_few : (d : Draft) (s n : ℕ) → ((k : ℕ) → k < n → GuardRanged (row_at d k).guard) → greatest_end d s n ≤ max_days
+-- no end of the first n rows is later than the greatest day
+pub end_few : (d : Draft) (s n : ℕ) → ((k : ℕ) → k < n → GuardRanged (row_at d k).guard) → greatest_end d s n ≤ max_days
 end_few d s zero h = omega arith
 end_few d s (suc n) h =
     let e = h n (omega arith) in

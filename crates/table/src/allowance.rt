@@ -13,7 +13,7 @@ use crate::machine::Machine;
 use text::limits::MAX_DAYS;
 
 /// So many landings, refilled after so many quiet days.
-#[derive(Clone, Copy)]
+#[derive(Clone, Copy, Debug, PartialEq, Eq)]
 pub struct Allowance {
     landings: u8,
     days: u8,
@@ -28,10 +28,10 @@ impl Allowance {
     pub fn new(landings: u8, days: u8) -> Result<Allowance, TableFault>
         ensures { MatchResult result (λ a. (a.landings ≡ landings) × (a.days ≡ days) × (allowance_fault landings days ≡ None)) (λ f. allowance_fault landings days ≡ Some f) }
     {
-        if landings < 1 || landings > MAX_LANDINGS {
+        if !(1..=MAX_LANDINGS).contains(&landings) {
             return Err(TableFault::Landings);
         }
-        if days < 1 || days > MAX_DAYS {
+        if !(1..=MAX_DAYS).contains(&days) {
             return Err(TableFault::QuietDays);
         }
         Ok(Allowance { landings, days })
@@ -42,21 +42,20 @@ impl Allowance {
         requires { (left ≤ self.now.landings) × (stretch < 2 * self.now.days) }
         ensures { result ≡ state_number self.now.landings self.now.days (left, stretch) }
     {
-        (self.landings - left) as u16 * (2 * self.days as u16) + stretch as u16
+        u16::from(self.landings - left) * (2 * u16::from(self.days)) + u16::from(stretch)
     }
 
     /// The landings left and the stretch of the state with the number.
     fn place_of(&self, state: u16) -> Option<(u8, u8)>
         ensures { result ≡ given_if (nat_lt state (allowance_count self.now.landings self.now.days)) (left_at self.now.landings self.now.days state) }
     {
-        if state >= self.count() {
-            return None;
-        }
-        let stretches = 2 * self.days as u16;
-        Some((
-            self.landings - (state / stretches) as u8,
-            (state % stretches) as u8,
-        ))
+        let stretches = 2 * u16::from(self.days);
+        (state < self.count()).then(|| {
+            (
+                self.landings - (state / stretches) as u8,
+                (state % stretches) as u8,
+            )
+        })
     }
 }
 
@@ -74,7 +73,7 @@ impl Machine for Allowance {
     ghost lawful = { λ m. allowance_lawful m.landings m.days m.few_landings m.some_days m.few_days };
 
     fn count(&self) -> u16 {
-        (self.landings as u16 + 1) * (2 * self.days as u16)
+        (u16::from(self.landings) + 1) * (2 * u16::from(self.days))
     }
 
     fn inputs(&self) -> u8 {
@@ -87,11 +86,11 @@ impl Machine for Allowance {
 
     fn tick(&self, state: u16) -> Option<u16> {
         let (left, stretch) = self.place_of(state)?;
-        if stretch + 1 < 2 * self.days {
-            Some(self.number_of(left, stretch + 1))
+        Some(if stretch + 1 < 2 * self.days {
+            self.number_of(left, stretch + 1)
         } else {
-            Some(self.number_of(self.landings, 0))
-        }
+            self.number_of(self.landings, 0)
+        })
     }
 
     fn take(&self, state: u16, input: u8) -> Option<(u16, u8)> {
@@ -99,9 +98,9 @@ impl Machine for Allowance {
             return None;
         }
         let (left, _) = self.place_of(state)?;
-        match left {
-            0 => Some((self.number_of(0, 0), 0)),
-            _ => Some((self.number_of(left - 1, 0), 1)),
-        }
+        Some(match left {
+            0 => (self.number_of(0, 0), 0),
+            _ => (self.number_of(left - 1, 0), 1),
+        })
     }
 }

@@ -1,30 +1,31 @@
 //! A book: a sound draft, with the numbers of its states as a machine.
 
-ghost use Rattle.text.specs.Draft.{InputsRanged, CountsRanged, StatesRanged, RowsNamed, GuardsRanged, Sized};
-ghost use Rattle.table.specs.Padding.{StaysBehind, NoRowsBehind};
-ghost use Rattle.table.specs.Sound.{NoneEmpty, NonePast, OneRow};
+ghost use Rattle.std.specs.Prelude.{◌≡◌};
+ghost use Rattle.text.specs.Draft.{Sized};
+ghost use Rattle.table.specs.Sound.{Sound};
 ghost use Rattle.table.specs.Offsets.{Offsets, ZerosBehind};
 
 use crate::limits::MAX_OFFSETS;
+use crate::table::Table;
 use text::draft::Draft;
 
 /// A sound book. Every book that exists is one.
-#[derive(Clone, Copy)]
+#[derive(Clone, Copy, Debug, PartialEq, Eq)]
 pub struct Book {
     pub(crate) draft: Draft,
-    // the number at which each state's stretches begin, and past them the number of all
+    // the number at which each state's stretches begin, and past them the number of all; kept, so that a step counts no rows again
     pub(crate) offsets: [u16; MAX_OFFSETS],
-    ghost inputs_ranged: { InputsRanged draft },
-    ghost counts_ranged: { CountsRanged draft },
-    ghost states_ranged: { StatesRanged draft },
-    ghost rows_named: { RowsNamed draft },
-    ghost guards_ranged: { GuardsRanged draft },
+    ghost sound: { Sound draft },
     ghost sized: { Sized draft },
-    ghost states_padded: { StaysBehind draft },
-    ghost rows_padded: { NoRowsBehind draft },
-    ghost none_empty: { NoneEmpty draft },
-    ghost none_past: { NonePast draft },
-    ghost one_row: { OneRow draft },
     ghost numbered: { Offsets draft offsets },
     ghost offsets_padded: { ZerosBehind draft offsets },
+}
+
+impl Book {
+    /// The book's table.
+    pub(crate) fn table(&self) -> Table<'_>
+        ensures { result.draft.now ≡ self.now.draft }
+    {
+        Table { draft: &self.draft }
+    }
 }

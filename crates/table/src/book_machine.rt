@@ -1,31 +1,31 @@
 //! The book as a machine.
 
 ghost use Rattle.std.specs.Prelude.{◌≡◌, ◌<◌};
-ghost use Rattle.text.specs.Draft.{Ranged};
 ghost use Rattle.table.specs.Stretch.{stretches};
 ghost use Rattle.table.specs.Offsets.{all_stretches};
 ghost use Rattle.table.specs.BookMachine.{place_after, book_tick, book_take};
-ghost use Rattle.table.specs.Books.{book_sound};
 ghost use Rattle.table.specs.Answering.{book_lawful};
 
 use crate::book::Book;
+use crate::fault::Spot;
 use crate::machine::Machine;
-use crate::rows::row_number_at;
-use crate::stretch::count_stretches;
-use text::draft::{Draft, State};
+use crate::table::TableState;
+use text::draft::State;
 
-/// The state and the stretch after one tick.
-fn after_tick(draft: &Draft, state: u8, stretch: u8) -> (u8, u8)
-    requires { (Ranged draft.now) × ((state < draft.now.states.count) × (stretch < stretches draft.now state)) }
-    ensures { result ≡ place_after draft.now (state, stretch) }
-{
-    let width = count_stretches(draft, state);
-    let kind = draft.states.all[state as usize];
-    match kind {
-        State::Stay if stretch + 1 < width => (state, stretch + 1),
-        State::Stay => (state, stretch),
-        State::Hold { .. } if stretch + 1 < width => (state, stretch + 1),
-        State::Hold { target, .. } => (target, 0),
+impl TableState<'_> {
+    /// The state and the stretch after one tick.
+    fn after_tick(self, stretch: u8) -> (u8, u8)
+        requires { stretch < stretches self.table.draft.now self.number }
+        ensures { result ≡ place_after self.entry.table.draft.now (self.entry.number, stretch) }
+    {
+        let width = self.count_stretches();
+        // One arm for each way in which a tick can end; the project keeps this form.
+        match self.kind() {
+            State::Stay if stretch + 1 < width => (self.number, stretch + 1),
+            State::Stay => (self.number, stretch),
+            State::Hold { .. } if stretch + 1 < width => (self.number, stretch + 1),
+            State::Hold { target, .. } => (target, 0),
+        }
     }
 }
 
@@ -40,10 +40,10 @@ impl Machine for Book {
 
     ghost take = { λ b s i. book_take b.draft s i };
 
-    ghost lawful = { λ m. book_lawful m.draft (book_sound m) };
+    ghost lawful = { λ m. book_lawful m.draft m.sound };
 
     fn count(&self) -> u16 {
-        self.number_of(self.draft.states.count, 0)
+        self.number_of(self.draft.states.count as u8, 0)
     }
 
     fn inputs(&self) -> u8 {
@@ -56,7 +56,11 @@ impl Machine for Book {
 
     fn tick(&self, state: u16) -> Option<u16> {
         let (at, stretch) = self.place_of(state)?;
-        let (next, then) = after_tick(&self.draft, at, stretch);
+        let state = TableState {
+            table: self.table(),
+            number: at,
+        };
+        let (next, then) = state.after_tick(stretch);
         Some(self.number_of(next, then))
     }
 
@@ -65,8 +69,13 @@ impl Machine for Book {
             return None;
         }
         let (at, stretch) = self.place_of(state)?;
-        let number = row_number_at(&self.draft, at, input, stretch)?;
-        let row = self.draft.rows.all[number as usize];
+        let spot = Spot {
+            state: at,
+            input,
+            stretch,
+        };
+        let number = self.table().row_number_at(spot)?;
+        let row = self.draft.rows.all[number];
         Some((self.number_of(row.next, 0), row.output))
     }
 }

@@ -6,8 +6,16 @@ ghost use Rattle.table.specs.declared.fault.TableFault.TheVariants as refusal;
 
 use text::fault::TextFault;
 
+/// A state, an input of it and a stretch of it.
+#[derive(Clone, Copy, Debug, PartialEq, Eq)]
+pub struct Spot {
+    pub state: u8,
+    pub input: u8,
+    pub stretch: u8,
+}
+
 /// A refusal of this layer, or of the text below it.
-#[derive(Clone, Copy)]
+#[derive(Clone, Copy, Debug, PartialEq, Eq)]
 pub enum TableFault {
     /// The text is refused.
     Text(TextFault),
@@ -16,9 +24,9 @@ pub enum TableFault {
     /// The guard of the row holds a clock that its state never shows.
     PastTimeout { row: u16 },
     /// Two rows answer one input in one stretch.
-    TwoRows { state: u8, input: u8, stretch: u8 },
+    TwoRows(Spot),
     /// No row answers an input in a stretch.
-    NoRow { state: u8, input: u8, stretch: u8 },
+    NoRow(Spot),
     /// An allowance has no such number of landings.
     Landings,
     /// An allowance has no such number of quiet days.
@@ -28,11 +36,10 @@ pub enum TableFault {
 }
 
 /// Where a refusal comes: at a byte, a row or an entry, or at a stretch of a state and an input.
-#[derive(Clone, Copy)]
+#[derive(Clone, Copy, Debug, PartialEq, Eq)]
 pub enum Place {
-    Nowhere,
     At(usize),
-    Spot { state: u8, input: u8, stretch: u8 },
+    Spot(Spot),
 }
 
 impl TableFault {
@@ -44,15 +51,15 @@ impl TableFault {
             TableFault::Text(fault) => fault.number(),
             TableFault::EmptyGuard { .. } => 21,
             TableFault::PastTimeout { .. } => 22,
-            TableFault::TwoRows { .. } => 23,
-            TableFault::NoRow { .. } => 24,
+            TableFault::TwoRows(_) => 23,
+            TableFault::NoRow(_) => 24,
             TableFault::Landings => 25,
             TableFault::QuietDays => 26,
             TableFault::Output { .. } => 27,
         }
     }
 
-    /// The layer that refuses.
+    /// The layer that refuses. Each layer answers for itself and asks the one below for its own; a trait would be no plainer.
     pub fn layer(self) -> &'static str
         ensures { result.now ≡ layer_of self }
     {
@@ -62,38 +69,18 @@ impl TableFault {
         }
     }
 
-    /// The place of the fault.
-    pub fn place(self) -> Place
+    /// The place of the fault, where it has one.
+    pub fn place(self) -> Option<Place>
         ensures { result ≡ place_of self }
     {
         match self {
-            TableFault::Text(fault) => match fault.place() {
-                Some(at) => Place::At(at),
-                None => Place::Nowhere,
-            },
-            TableFault::EmptyGuard { row } => Place::At(row as usize),
-            TableFault::PastTimeout { row } => Place::At(row as usize),
-            TableFault::TwoRows {
-                state,
-                input,
-                stretch,
-            } => Place::Spot {
-                state,
-                input,
-                stretch,
-            },
-            TableFault::NoRow {
-                state,
-                input,
-                stretch,
-            } => Place::Spot {
-                state,
-                input,
-                stretch,
-            },
-            TableFault::Landings => Place::Nowhere,
-            TableFault::QuietDays => Place::Nowhere,
-            TableFault::Output { entry } => Place::At(entry as usize),
+            TableFault::Text(fault) => fault.place().map(Place::At),
+            TableFault::EmptyGuard { row } | TableFault::PastTimeout { row } => {
+                Some(Place::At(usize::from(row)))
+            }
+            TableFault::TwoRows(spot) | TableFault::NoRow(spot) => Some(Place::Spot(spot)),
+            TableFault::Landings | TableFault::QuietDays => None,
+            TableFault::Output { entry } => Some(Place::At(usize::from(entry))),
         }
     }
 }

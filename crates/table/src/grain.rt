@@ -6,7 +6,7 @@ ghost use Rattle.table.specs.Word.{ticks, steps};
 use crate::word::Entry;
 
 /// A grain of at least one part a day.
-#[derive(Clone, Copy)]
+#[derive(Clone, Copy, Debug, PartialEq, Eq)]
 pub struct Grain {
     parts: u32,
     ghost some: { 1 ≤ parts },
@@ -41,7 +41,7 @@ impl Grain {
     pub fn ticks(self, wait: u32) -> u64
         ensures { result ≡ ticks self.parts wait }
     {
-        let whole = 2 * (wait / self.parts) as u64;
+        let whole = 2 * u64::from(wait / self.parts);
         if wait % self.parts == 0 {
             whole
         } else {
@@ -50,12 +50,13 @@ impl Grain {
     }
 
     /// The steps of a word: the ticks of each entry, and one take.
+    // A form that the project keeps: a `for` over the entries of a word adds up its steps.
     pub fn steps(self, word: &[Entry]) -> u128
         ensures { result ≡ steps self.parts word.now }
     {
         let mut all = 0;
         for entry in word {
-            all += self.ticks(entry.wait) as u128 + 1;
+            all += u128::from(self.ticks(entry.wait)) + 1;
         }
         all
     }

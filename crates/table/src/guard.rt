@@ -1,26 +1,26 @@
 //! The clocks of a guard: which stretches lie in it, and how far it reaches.
 
 ghost use Rattle.std.specs.Prelude.{◌≡◌};
-ghost use Rattle.text.specs.Draft.{GuardRanged};
 ghost use Rattle.table.specs.Guard.{contains, empty, passes, last_end, half_days};
 
 use text::draft::{End, Guard, High};
 
 /// Whether the guard contains a stretch.
 pub(crate) fn has_stretch(guard: Guard, stretch: u8) -> bool
-    requires { GuardRanged guard }
     ensures { result ≡ contains half_days guard stretch }
 {
+    let clock = u16::from(stretch);
+    let low = 2 * u16::from(guard.low);
     let above = match guard.end {
-        End::Shut => 2 * guard.low <= stretch,
-        End::Open => 2 * guard.low < stretch,
+        End::Shut => low <= clock,
+        End::Open => low < clock,
     };
     let below = match guard.high {
-        High::At(day, End::Shut) => stretch <= 2 * day,
-        High::At(day, End::Open) => stretch < 2 * day,
+        High::At(day, End::Shut) => clock <= 2 * u16::from(day),
+        High::At(day, End::Open) => clock < 2 * u16::from(day),
         High::Inf => true,
     };
-    above & below
+    above && below
 }
 
 /// Whether no clock lies in the guard.

@@ -17,5 +17,6 @@ pub mod read;
 mod rows;
 mod sound;
 mod stretch;
+mod table;
 pub mod view;
 pub mod word;

@@ -8,48 +8,32 @@ ghost use Rattle.table.specs.Soundness.{SoundTable};
 
 use crate::book::Book;
 use crate::fault::TableFault;
-use crate::offsets::offsets_of;
-use crate::sound::fault_of_draft;
-use text::draft::{Draft, End, Guard, High, Row, Rows, State, States};
+use crate::table::Table;
+use text::draft::{Draft, End, Guard, High, NO_ROW, Row, State, UpTo};
 use text::limits::{MAX_ROWS, MAX_STATES};
 
 /// The draft of one stay state that answers its one input at any clock.
 fn fresh() -> Draft
     ensures { result ≡ fresh_draft }
 {
-    let none = Guard {
-        low: 0,
-        end: End::Shut,
-        high: High::At(0, End::Shut),
-    };
     let always = Guard {
         low: 0,
         end: End::Shut,
         high: High::Inf,
     };
-    let mut all = [Row {
-        state: 0,
-        input: 0,
-        guard: none,
-        output: 0,
-        next: 0,
-    }; MAX_ROWS];
+    let mut all = [NO_ROW; MAX_ROWS];
     all[0] = Row {
-        state: 0,
-        input: 0,
         guard: always,
-        output: 0,
-        next: 0,
-    };
-    let states = States {
-        count: 1,
-        all: [State::Stay; MAX_STATES],
+        ..NO_ROW
     };
     Draft {
         inputs: 1,
         outputs: 1,
-        states,
-        rows: Rows { count: 1, all },
+        states: UpTo {
+            count: 1,
+            all: [State::Stay; MAX_STATES],
+        },
+        rows: UpTo { count: 1, all },
     }
 }
 
@@ -60,21 +44,18 @@ impl Book {
         ensures sound { (b : Book) → SoundTable b.draft }
     {
         let draft = fresh();
-        let offsets = offsets_of(&draft);
+        let offsets = Table { draft: &draft }.offsets();
         Book { draft, offsets }
     }
 
-    /// The book of the draft, or the draft's first fault.
+    /// The book of the draft, or the draft's first fault. Here alone the ranges are a premise: a table carries them from here on.
     pub(crate) fn from_draft(draft: Draft) -> Result<Book, TableFault>
         requires { Ranged draft }
         ensures { MatchResult result (λ b. (b.draft ≡ draft) × (draft_fault draft ≡ None)) (λ f. draft_fault draft ≡ Some f) }
     {
-        match fault_of_draft(&draft) {
-            Some(fault) => Err(fault),
-            None => {
-                let offsets = offsets_of(&draft);
-                Ok(Book { draft, offsets })
-            }
-        }
+        let table = Table { draft: &draft };
+        table.check()?;
+        let offsets = table.offsets();
+        Ok(Book { draft, offsets })
     }
 }

@@ -1,28 +1,32 @@
 //! The numbers of a book's states and stretches, one after another.
 
-ghost use Rattle.std.specs.Prelude.{◌≡◌, ◌≤◌, nat_lt};
-ghost use Rattle.text.specs.Draft.{Ranged};
+ghost use Rattle.std.specs.Prelude.{◌≡◌, ◌≤◌, nat_lt, drop, position};
 ghost use Rattle.table.specs.Meaning.{given_if};
 ghost use Rattle.table.specs.Offsets.{Offsets, ZerosBehind, all_stretches, number, place};
 
 use crate::book::Book;
 use crate::limits::MAX_OFFSETS;
-use crate::stretch::count_stretches;
-use text::draft::Draft;
+use crate::table::{Table, TableState};
 
-/// The number at which each state's stretches begin, and past them the number of all.
-pub(crate) fn offsets_of(draft: &Draft) -> [u16; MAX_OFFSETS]
-    requires { Ranged draft.now }
-    ensures numbered { Offsets draft.now result }
-    ensures padded { ZerosBehind draft.now result }
-{
-    let mut offsets = [0; MAX_OFFSETS];
-    let mut sum = 0;
-    for state in 0..draft.states.count {
-        sum += count_stretches(draft, state) as u16;
-        offsets[state as usize + 1] = sum;
+impl Table<'_> {
+    /// The number at which each state's stretches begin, and past them the number of all.
+    pub(crate) fn offsets(self) -> [u16; MAX_OFFSETS]
+        ensures numbered { Offsets self.entry.draft.now result }
+        ensures padded { ZerosBehind self.entry.draft.now result }
+    {
+        // Filled by a loop over the numbers: each place is the sum so far, and an iterator is no plainer.
+        let mut offsets = [0; MAX_OFFSETS];
+        let mut sum = 0;
+        for number in 0..self.draft.states.count {
+            let state = TableState {
+                table: self,
+                number: number as u8,
+            };
+            sum += u16::from(state.count_stretches());
+            offsets[number as usize + 1] = sum;
+        }
+        offsets
     }
-    offsets
 }
 
 impl Book {
@@ -31,18 +35,21 @@ impl Book {
         requires { state ≤ self.now.draft.states.count }
         ensures { result ≡ number self.now.draft (state, stretch) }
     {
-        self.offsets[state as usize] + stretch as u16
+        self.offsets[state as usize] + u16::from(stretch)
     }
 
     /// The state and the stretch that have the number sought.
     pub(crate) fn place_of(&self, sought: u16) -> Option<(u8, u8)>
         ensures { result ≡ given_if (nat_lt sought (all_stretches self.now.draft)) (place self.now.draft sought) }
     {
-        for state in 0..self.draft.states.count {
-            if sought < self.offsets[state as usize + 1] {
-                return Some((state, (sought - self.offsets[state as usize]) as u8));
-            }
-        }
-        None
+        let state = self.state_of(sought)?;
+        Some((state as u8, (sought - self.offsets[state]) as u8))
+    }
+
+    /// The first state whose stretches end past the number sought. Past the number of all stand zeros.
+    fn state_of(&self, sought: u16) -> Option<usize>
+        ensures { result ≡ position (nat_lt sought) (drop 1 self.now.offsets) }
+    {
+        self.offsets[1..].iter().position(|end| sought < *end)
     }
 }

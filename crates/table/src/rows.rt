@@ -1,64 +1,56 @@
 //! The rows that answer an input in a state and a stretch.
 
-ghost use Rattle.std.specs.Prelude.{◌≡◌};
-ghost use Rattle.text.specs.Draft.{GuardRanged, Ranged};
+ghost use Rattle.std.specs.Prelude.{◌≡◌, take, not, ◌==◌};
 ghost use Rattle.table.specs.Rows.{belongs, covers, rows_of, rows_at, row_number};
 
+use crate::fault::Spot;
 use crate::guard::has_stretch;
-use text::draft::{Draft, Row};
+use crate::table::Table;
+use text::draft::Row;
 
 /// Whether the row is one of the state and the input.
 fn belongs_to(row: Row, state: u8, input: u8) -> bool
     ensures { result ≡ belongs state input row }
 {
-    (row.state == state) & (row.input == input)
+    row.state == state && row.input == input
 }
 
 /// Whether the row is one of the state and the input, and contains the stretch.
-fn covers_stretch(row: Row, state: u8, input: u8, stretch: u8) -> bool
-    requires { GuardRanged row.guard }
-    ensures { result ≡ covers state input stretch row }
+fn covers_spot(row: Row, spot: Spot) -> bool
+    ensures { result ≡ covers spot.state spot.input spot.stretch row }
 {
-    belongs_to(row, state, input) & has_stretch(row.guard, stretch)
+    belongs_to(row, spot.state, spot.input) && has_stretch(row.guard, spot.stretch)
 }
 
-/// How many rows belong to the state and the input.
-pub(crate) fn count_rows_of(draft: &Draft, state: u8, input: u8) -> u16
-    requires { Ranged draft.now }
-    ensures { result ≡ rows_of draft.now state input }
-{
-    let mut found = 0;
-    for k in 0..draft.rows.count {
-        if belongs_to(draft.rows.all[k as usize], state, input) {
-            found += 1;
-        }
+impl<'a> Table<'a> {
+    /// The rows.
+    pub(crate) fn rows(self) -> &'a [Row]
+        ensures { result.now ≡ take self.entry.draft.now.rows.count self.entry.draft.now.rows.all }
+    {
+        self.draft.rows.as_slice()
     }
-    found
-}
 
-/// How many rows contain the stretch.
-pub(crate) fn count_rows_at(draft: &Draft, state: u8, input: u8, stretch: u8) -> u16
-    requires { Ranged draft.now }
-    ensures { result ≡ rows_at draft.now state input stretch }
-{
-    let mut found = 0;
-    for k in 0..draft.rows.count {
-        if covers_stretch(draft.rows.all[k as usize], state, input, stretch) {
-            found += 1;
-        }
+    /// Whether some row belongs to the state and the input.
+    pub(crate) fn has_rows_of(self, state: u8, input: u8) -> bool
+        ensures { result ≡ not (rows_of self.entry.draft.now state input == 0) }
+    {
+        self.rows().iter().any(|row| belongs_to(*row, state, input))
     }
-    found
-}
 
-/// The number of the first row that contains the stretch.
-pub(crate) fn row_number_at(draft: &Draft, state: u8, input: u8, stretch: u8) -> Option<u16>
-    requires { Ranged draft.now }
-    ensures { result ≡ row_number draft.now state input stretch }
-{
-    for k in 0..draft.rows.count {
-        if covers_stretch(draft.rows.all[k as usize], state, input, stretch) {
-            return Some(k);
-        }
+    /// How many rows contain the stretch.
+    pub(crate) fn count_rows_at(self, spot: Spot) -> usize
+        ensures { result ≡ rows_at self.entry.draft.now spot.state spot.input spot.stretch }
+    {
+        self.rows()
+            .iter()
+            .filter(|row| covers_spot(**row, spot))
+            .count()
     }
-    None
+
+    /// The number of the first row that contains the stretch.
+    pub(crate) fn row_number_at(self, spot: Spot) -> Option<usize>
+        ensures { result ≡ row_number self.entry.draft.now spot.state spot.input spot.stretch }
+    {
+        self.rows().iter().position(|row| covers_spot(*row, spot))
+    }
 }

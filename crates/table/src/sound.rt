@@ -1,15 +1,16 @@
 //! The check that a draft is sound: its first fault, or none.
+//!
+//! The loops go by number, since a fault names its row, or its state, input and stretch. Each is one line of its own: a loop over
+//! a closure would have to say what the closure refuses, and is no plainer.
 
-ghost use Rattle.std.specs.Prelude.{◌≡◌, ◌<◌, None};
-ghost use Rattle.text.specs.Draft.{Ranged};
-ghost use Rattle.table.specs.First.{first};
+ghost use Rattle.std.specs.Prelude.{◌≡◌, ◌<◌, Ok};
+ghost use Rattle.table.specs.First.{first, unless_fault};
 ghost use Rattle.table.specs.Sound.{Sound, past_timeout, row_fault, stretch_fault, input_fault, state_fault, draft_fault};
 
-use crate::fault::TableFault;
+use crate::fault::{Spot, TableFault};
 use crate::guard::{is_empty, passes_timeout};
-use crate::rows::{count_rows_at, count_rows_of};
-use crate::stretch::count_stretches;
-use text::draft::{Draft, Guard, State};
+use crate::table::{Table, TableState};
+use text::draft::{Guard, State};
 
 /// Whether the guard holds a clock that the state never shows.
 fn is_past_timeout(state: State, guard: Guard) -> bool
@@ -21,112 +22,97 @@ fn is_past_timeout(state: State, guard: Guard) -> bool
     }
 }
 
-/// The fault of one row's guard.
-fn fault_of_row(draft: &Draft, row: u16) -> Option<TableFault>
-    requires { (Ranged draft.now) × (row < draft.now.rows.count) }
-    ensures { result ≡ row_fault draft.now row }
-{
-    let line = draft.rows.all[row as usize];
-    if is_empty(line.guard) {
-        return Some(TableFault::EmptyGuard { row });
+impl Table<'_> {
+    /// Refuses a row whose guard is empty or holds a clock past the timeout.
+    fn check_row(self, row: u16) -> Result<(), TableFault>
+        requires { row < self.draft.now.rows.count }
+        ensures { result ≡ unless_fault (row_fault self.entry.draft.now row) tt }
+    {
+        let line = self.draft.rows.all[row as usize];
+        if is_empty(line.guard) {
+            return Err(TableFault::EmptyGuard { row });
+        }
+        if is_past_timeout(self.draft.states.all[line.state as usize], line.guard) {
+            return Err(TableFault::PastTimeout { row });
+        }
+        Ok(())
     }
-    if is_past_timeout(draft.states.all[line.state as usize], line.guard) {
-        return Some(TableFault::PastTimeout { row });
-    }
-    None
-}
 
-/// The first fault among the guards.
-fn fault_of_rows(draft: &Draft) -> Option<TableFault>
-    requires { Ranged draft.now }
-    ensures { result ≡ first (row_fault draft.now) draft.now.rows.count }
-{
-    for row in 0..draft.rows.count {
-        match fault_of_row(draft, row) {
-            Some(fault) => return Some(fault),
-            None => {}
+    /// Refuses the first fault among the rows.
+    fn check_rows(self) -> Result<(), TableFault>
+        ensures { result ≡ unless_fault (first (row_fault self.entry.draft.now) self.entry.draft.now.rows.count) tt }
+    {
+        for row in 0..self.draft.rows.count {
+            self.check_row(row)?;
+        }
+        Ok(())
+    }
+
+    /// Refuses a stretch that no row contains, or more than one.
+    fn check_stretch(self, spot: Spot) -> Result<(), TableFault>
+        ensures { result ≡ unless_fault (stretch_fault self.entry.draft.now spot.state spot.input spot.stretch) tt }
+    {
+        match self.count_rows_at(spot) {
+            0 => Err(TableFault::NoRow(spot)),
+            1 => Ok(()),
+            _ => Err(TableFault::TwoRows(spot)),
         }
     }
-    None
-}
 
-/// Whether no row or more than one contains the stretch.
-fn fault_of_stretch(draft: &Draft, state: u8, input: u8, stretch: u8) -> Option<TableFault>
-    requires { Ranged draft.now }
-    ensures { result ≡ stretch_fault draft.now state input stretch }
-{
-    match count_rows_at(draft, state, input, stretch) {
-        0 => Some(TableFault::NoRow {
-            state,
-            input,
-            stretch,
-        }),
-        1 => None,
-        _ => Some(TableFault::TwoRows {
-            state,
-            input,
-            stretch,
-        }),
-    }
-}
-
-/// The first fault among the stretches of a state and an input.
-fn fault_of_input(draft: &Draft, state: u8, input: u8) -> Option<TableFault>
-    requires { (Ranged draft.now) × (state < draft.now.states.count) }
-    ensures { result ≡ input_fault draft.now state input }
-{
-    if count_rows_of(draft, state, input) == 0 {
-        return Some(TableFault::NoRow {
-            state,
-            input,
-            stretch: 0,
-        });
-    }
-    for stretch in 0..count_stretches(draft, state) {
-        match fault_of_stretch(draft, state, input, stretch) {
-            Some(fault) => return Some(fault),
-            None => {}
+    /// Refuses the first fault among the states.
+    fn check_states(self) -> Result<(), TableFault>
+        ensures { result ≡ unless_fault (first (state_fault self.entry.draft.now) self.entry.draft.now.states.count) tt }
+    {
+        for number in 0..self.draft.states.count {
+            let state = TableState {
+                table: self,
+                number: number as u8,
+            };
+            state.check()?;
         }
+        Ok(())
     }
-    None
+
+    /// Refuses the first fault of the draft; a draft without one is sound.
+    pub(crate) fn check(self) -> Result<(), TableFault>
+        ensures answer { result ≡ unless_fault (draft_fault self.entry.draft.now) tt }
+        ensures sound { result ≡ Ok tt → Sound self.entry.draft.now }
+    {
+        self.check_rows()?;
+        self.check_states()
+    }
 }
 
-/// The first fault among the inputs of a state.
-fn fault_of_state(draft: &Draft, state: u8) -> Option<TableFault>
-    requires { (Ranged draft.now) × (state < draft.now.states.count) }
-    ensures { result ≡ state_fault draft.now state }
-{
-    for input in 0..draft.inputs {
-        match fault_of_input(draft, state, input) {
-            Some(fault) => return Some(fault),
-            None => {}
+impl TableState<'_> {
+    /// Refuses the first fault among the stretches of the state and an input.
+    fn check_input(self, input: u8) -> Result<(), TableFault>
+        ensures { result ≡ unless_fault (input_fault self.entry.table.draft.now self.entry.number input) tt }
+    {
+        let state = self.number;
+        if !self.table.has_rows_of(state, input) {
+            return Err(TableFault::NoRow(Spot {
+                state,
+                input,
+                stretch: 0,
+            }));
         }
-    }
-    None
-}
-
-/// The first fault among the states.
-fn fault_of_states(draft: &Draft) -> Option<TableFault>
-    requires { Ranged draft.now }
-    ensures { result ≡ first (state_fault draft.now) draft.now.states.count }
-{
-    for state in 0..draft.states.count {
-        match fault_of_state(draft, state) {
-            Some(fault) => return Some(fault),
-            None => {}
+        for stretch in 0..self.count_stretches() {
+            self.table.check_stretch(Spot {
+                state,
+                input,
+                stretch,
+            })?;
         }
+        Ok(())
     }
-    None
-}
 
-/// The first fault of the draft; a draft without one is sound.
-pub(crate) fn fault_of_draft(draft: &Draft) -> Option<TableFault>
-    requires { Ranged draft.now }
-    ensures answer { result ≡ draft_fault draft.now }
-    ensures sound { result ≡ None → Sound draft.now }
-{
-    match fault_of_rows(draft) {
-        Some(fault) => Some(fault),
-        None => fault_of_states(draft),
+    /// Refuses the first fault among the inputs of the state.
+    fn check(self) -> Result<(), TableFault>
+        ensures { result ≡ unless_fault (state_fault self.entry.table.draft.now self.entry.number) tt }
+    {
+        for input in 0..self.table.draft.inputs {
+            self.check_input(input)?;
+        }
+        Ok(())
     }
 }

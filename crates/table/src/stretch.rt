@@ -1,35 +1,34 @@
 //! The stretches of a state.
 
-ghost use Rattle.std.specs.Prelude.{◌≡◌, ◌<◌, ◌≤◌};
-ghost use Rattle.text.specs.Draft.{Ranged};
-ghost use Rattle.text.specs.Limits.{max_days};
-ghost use Rattle.table.specs.Stretch.{greatest_end, stretches, max_stretches};
+ghost use Rattle.std.specs.Prelude.{◌≡◌};
+ghost use Rattle.table.specs.Stretch.{greatest_end, stretches};
 
 use crate::guard::greatest_end;
-use text::draft::{Draft, State};
+use crate::table::{Table, TableState};
+use text::draft::State;
 
-/// The greatest finite guard end in the state's rows, or 0.
-fn greatest_end_of(draft: &Draft, state: u8) -> u8
-    requires { Ranged draft.now }
-    ensures { (result ≡ greatest_end draft.now state draft.now.rows.count) × (result ≤ max_days) }
-{
-    let mut greatest = 0;
-    for k in 0..draft.rows.count {
-        let row = draft.rows.all[k as usize];
-        if row.state == state {
-            greatest = greatest_end(row.guard).max(greatest);
-        }
+impl Table<'_> {
+    /// The greatest finite guard end in the state's rows, or 0.
+    fn greatest_end_of(self, state: u8) -> u8
+        ensures { result ≡ greatest_end self.entry.draft.now state self.entry.draft.now.rows.count }
+    {
+        self.rows()
+            .iter()
+            .filter(|row| row.state == state)
+            .map(|row| greatest_end(row.guard))
+            .max()
+            .unwrap_or(0)
     }
-    greatest
 }
 
-/// How many stretches the state has.
-pub(crate) fn count_stretches(draft: &Draft, state: u8) -> u8
-    requires { (Ranged draft.now) × (state < draft.now.states.count) }
-    ensures { (result ≡ stretches draft.now state) × (result ≤ max_stretches) }
-{
-    match draft.states.all[state as usize] {
-        State::Stay => 2 * greatest_end_of(draft, state) + 2,
-        State::Hold { timeout, .. } => 2 * timeout,
+impl TableState<'_> {
+    /// How many stretches the state has.
+    pub(crate) fn count_stretches(self) -> u8
+        ensures { result ≡ stretches self.entry.table.draft.now self.entry.number }
+    {
+        match self.kind() {
+            State::Stay => 2 * self.table.greatest_end_of(self.number) + 2,
+            State::Hold { timeout, .. } => 2 * timeout,
+        }
     }
 }

@@ -8,36 +8,12 @@ use crate::fault::TableFault;
 use crate::limits::OUTPUT_ENTRIES;
 use crate::machine::Machine;
 use crate::output_table::OutputTable;
-use text::limits::MAX_OUTPUTS;
 
 /// A machine whose outputs are read through a table.
-#[derive(Drop)]
+#[derive(Debug, Drop, PartialEq, Eq)]
 pub struct View<M: Machine> {
     below: M,
     table: OutputTable,
-}
-
-/// The table that sends each output to itself.
-fn outputs_to_themselves() -> OutputTable
-    ensures { result.entries ≡ same_outputs }
-{
-    let mut entries = [0; OUTPUT_ENTRIES];
-    for output in 0..MAX_OUTPUTS {
-        entries[output as usize] = output;
-    }
-    OutputTable { entries }
-}
-
-/// The fault of the first entry that is no output.
-fn fault_of_table(entries: &[u8; OUTPUT_ENTRIES]) -> Option<TableFault>
-    ensures { result ≡ table_fault entries.now }
-{
-    for k in 0..MAX_OUTPUTS {
-        if entries[k as usize] >= MAX_OUTPUTS {
-            return Some(TableFault::Output { entry: k });
-        }
-    }
-    None
 }
 
 impl<M: Machine> View<M> {
@@ -47,7 +23,7 @@ impl<M: Machine> View<M> {
     {
         View {
             below,
-            table: outputs_to_themselves(),
+            table: OutputTable::outputs_to_themselves(),
         }
     }
 
@@ -55,28 +31,24 @@ impl<M: Machine> View<M> {
     pub fn set_table(&mut self, table: [u8; OUTPUT_ENTRIES]) -> Result<(), TableFault>
         ensures { MatchResult result (λ _. (table_fault table ≡ None) × (self.new.table.entries ≡ table) × (self.new.below ≡ self.old.below)) (λ f. (table_fault table ≡ Some f) × (self.new ≡ self.old)) }
     {
-        match fault_of_table(&table) {
-            Some(fault) => Err(fault),
-            None => {
-                self.table = OutputTable { entries: table };
-                Ok(())
-            }
-        }
+        self.table = OutputTable::try_from(table)?;
+        Ok(())
     }
 }
 
 impl<M: Machine> Machine for View<M> {
-    ghost count = { λ v. M.Machine.count v.below };
+    ghost count = { λ v. M.count v.below };
 
-    ghost inputs = { λ v. M.Machine.inputs v.below };
+    ghost inputs = { λ v. M.inputs v.below };
 
-    ghost start = { λ v. M.Machine.start v.below };
+    ghost start = { λ v. M.start v.below };
 
-    ghost tick = { λ v s. M.Machine.tick v.below s };
+    ghost tick = { λ v s. M.tick v.below s };
 
-    ghost take = { λ v s i. passed v.table.entries (M.Machine.take v.below s i) };
+    ghost take = { λ v s i. passed v.table.entries (M.take v.below s i) };
 
-    ghost lawful = { λ v. view_lawful (record { count = M.Machine.count v.below; inputs = M.Machine.inputs v.below; start = M.Machine.start v.below; tick = M.Machine.tick v.below; take = M.Machine.take v.below }) v.table.entries v.table.small (M.Machine.lawful v.below) };
+    // The meaning below is written out, since `means` does not take the members of a bound here.
+    ghost lawful = { λ v. view_lawful (record { count = M.count v.below; inputs = M.inputs v.below; start = M.start v.below; tick = M.tick v.below; take = M.take v.below }) v.table.entries v.table.small (M.lawful v.below) };
 
     fn count(&self) -> u16 {
         self.below.count()

@@ -1,6 +1,8 @@
 -- The canonical text of a draft has the draft's parts, and whatever stands behind it, it begins with them.
 use Rattle.std.proofs.Common.{◌≡◌, ℕ, ◌<◌, ◌≤◌, true, false, List, [], ◌∷◌, ◌++◌, length, codes, decimal, sym, refl, subst, append_assoc, arith}
 use Rattle.std.specs.List.{flat_map, AllByRecursion}
+use Rattle.text.specs.declared.mark.Side.{Side}
+use Rattle.text.specs.declared.mark.Side.TheVariants.{Low, High as HighSide}
 use Rattle.text.specs.declared.draft.Draft.{Draft}
 use Rattle.text.specs.declared.draft.End.{End}
 use Rattle.text.specs.declared.draft.End.TheVariants.{Shut, Open}
@@ -15,7 +17,7 @@ use Rattle.text.specs.Draft.{no_row, StateRanged, GuardRanged, RowRanged, Formed
 use Rattle.text.specs.Limits.{number_limit, max_inputs, max_outputs, max_states, max_rows}
 use Rattle.text.specs.Parts.{All, spelling, Proper, Stops, Next, Begins}
 use Rattle.text.specs.Token.{Part, word, number, mark, is_of, is_mark}
-use Rattle.text.specs.Write.{head_line, state_line, opener, closer, high_text, guard_text, row_line, canonical}
+use Rattle.text.specs.Write.{head_line, state_line, opener, closer, mark_of, high_text, guard_text, row_line, canonical}
 use Rattle.text.proofs.DraftParts.{states_of, rows_of, draft_parts, every_front}
 use Rattle.text.proofs.Follows.{begins_append}
 use Rattle.text.proofs.Spelling.{head_parts, state_parts, high_parts, guard_parts, row_parts}
@@ -54,13 +56,11 @@ state_begins n (Hold t u) more h r =
 
 -- guards
 
-opener_mark : (e : End) → is_mark (opener e) ≡ true
-opener_mark Shut = refl
-opener_mark Open = refl
-
-closer_mark : (e : End) → is_mark (closer e) ≡ true
-closer_mark Shut = refl
-closer_mark Open = refl
+end_mark : (s : Side) (e : End) → is_mark (mark_of s e) ≡ true
+end_mark Low Shut = refl
+end_mark Low Open = refl
+end_mark HighSide Shut = refl
+end_mark HighSide Open = refl
 
 closer_stops : (e : End) → is_of Digit (closer e) ≡ false
 closer_stops Shut = refl
@@ -69,14 +69,14 @@ closer_stops Open = refl
 high_begins : (h : High) (low : ℕ) (e : End) (rest : List ℕ) → GuardRanged (record { low = low; end = e; high = h }) → Begins (high_parts h) (high_text h ++ rest) rest
 high_begins (At n f) low e rest r =
     subst (λ (t : List ℕ). Begins (high_parts (At n f)) t rest) (sym (append_assoc (decimal n) (closer f ∷ []) rest))
-    (closer f ∷ rest, next_number n [] (closer f) rest tt (omega (arith, r.1)) (closer_stops f), (rest, next_written (mark (closer f)) [] rest tt (closer_mark f) tt, refl))
+    (closer f ∷ rest, next_number n [] (closer f) rest tt (omega (arith, r.1)) (closer_stops f), (rest, next_written (mark (closer f)) [] rest tt (end_mark HighSide f) tt, refl))
 high_begins Inf low e rest r = (41 ∷ rest, next_written (word (codes "inf")) [] (41 ∷ rest) tt (omega arith, (refl, (refl, (refl, tt)))) refl, (rest, next_written (mark 41) [] rest tt refl tt, refl))
 
 guard_begins : (g : Guard) (rest : List ℕ) → GuardRanged g → Begins (guard_parts g) (32 ∷ (guard_text g ++ rest)) rest
 guard_begins g rest r =
     subst (λ (t : List ℕ). Begins (guard_parts g) (32 ∷ (opener g.end ∷ t)) rest) (sym (append_assoc (decimal g.low) (44 ∷ high_text g.high) rest)) (
       decimal g.low ++ (44 ∷ (high_text g.high ++ rest)),
-      next_written (mark (opener g.end)) (32 ∷ []) _ (refl, tt) (opener_mark g.end) tt,
+      next_written (mark (opener g.end)) (32 ∷ []) _ (refl, tt) (end_mark Low g.end) tt,
       (
         44 ∷ (high_text g.high ++ rest),
         next_number g.low [] 44 _ tt (omega (arith, r.0)) refl,

@@ -44,8 +44,7 @@ at_end p bs rest none e r =
     let nothing : got end [] ≡ got p rest = sym (ap part none) ∙ e in
     let same : end ≡ p = cc in
     let z : false ≡ true = ap real same ∙ r in
-    let w : ◌≡◌ {A = ℕ} 0 1 = cc in
-    omega arith
+    cc
 
 follows_same : (ps qs : List Part) (bs rest others : List ℕ) → Follows ps bs rest → Follows qs bs others → skip rest ≡ [] → skip others ≡ [] → ps ≡ qs
 follows_same [] [] bs rest others f g none nothing = refl

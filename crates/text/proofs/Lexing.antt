@@ -139,15 +139,15 @@ numeral_three a b c n d e f some is =
     ((λ i. x i ∷ y i ∷ z i ∷ []) ∙ sym (decimal_three n (omega arith) (omega arith)), omega arith)
 
 unless_some : {X : Type 0} (t : Bool) (x y : X) → cond t None (Some x) ≡ Some y → (t ≡ false) × (y ≡ x)
-unless_some true x y e = absurd (let z : ◌≡◌ {A = ℕ} 0 1 = cc in omega arith)
+unless_some true x y e = cc
 unless_some false x y e = (refl, cc)
 
 numeral_written : (ds : List ℕ) (n : ℕ) → All Digit ds → numeral ds ≡ Some n → (ds ≡ decimal n) × (n < number_limit)
-numeral_written [] n d e = absurd (let z : ◌≡◌ {A = ℕ} 0 1 = cc in omega arith)
+numeral_written [] n d e = cc
 numeral_written (a ∷ []) n d e = numeral_one a n d.0 (cc)
 numeral_written (a ∷ b ∷ []) n d e = let u = unless_some _ _ n e in numeral_two a b n d.0 d.1.0 (eqb-false a 48 u.0) u.1
 numeral_written (a ∷ b ∷ c ∷ []) n d e = let u = unless_some _ _ n e in numeral_three a b c n d.0 d.1.0 d.1.1.0 (eqb-false a 48 u.0) u.1
-numeral_written (a ∷ b ∷ c ∷ f ∷ ds) n d e = absurd (let z : ◌≡◌ {A = ℕ} 0 1 = cc in omega arith)
+numeral_written (a ∷ b ∷ c ∷ f ∷ ds) n d e = cc
 
 -- the lexer finds the part that is spelt
 
@@ -242,14 +242,14 @@ number_cut bs n e =
 
 numbered_cut : (o : Option ℕ) (p : Part) (bs rest : List ℕ) → numeral (take (run Digit bs) bs) ≡ o → numbered o bs (drop (run Digit bs) bs) ≡ got p rest → Cut p bs rest
 numbered_cut (Some n) p bs rest e g = cut_as (number n) p bs (drop (run Digit bs) bs) rest g (number_cut bs n e)
-numbered_cut None p bs rest e g = absurd (let z : ◌≡◌ {A = ℕ} 0 1 = cc in omega arith)
+numbered_cut None p bs rest e g = cc
 
 mark_cut : (t : Bool) (b : ℕ) (p : Part) (bs rest : List ℕ) → is_mark b ≡ t → cond t (got (mark b) bs) (no Malformed (b ∷ bs)) ≡ got p rest → Cut p (b ∷ bs) rest
 mark_cut true b p bs rest e g = cut_as (mark b) p (b ∷ bs) bs rest g (record { proper = e; stops = tt; is = refl })
-mark_cut false b p bs rest e g = absurd (let z : ◌≡◌ {A = ℕ} 0 1 = cc in omega arith)
+mark_cut false b p bs rest e g = cc
 
 part_cut : (p : Part) (bs rest : List ℕ) → part bs ≡ got p rest → real p ≡ true → Cut p bs rest
-part_cut p [] rest e r = absurd (let same : end ≡ p = cc in let z : false ≡ true = ap real same ∙ r in let w : ◌≡◌ {A = ℕ} 0 1 = cc in omega arith)
+part_cut p [] rest e r = let same : end ≡ p = cc in let z : false ≡ true = ap real same ∙ r in cc
 part_cut p (b ∷ bs) rest e r =
     ⊎_elim
     (λ (l : is_of Letter b ≡ true). cut_as _ p (b ∷ bs) _ rest (sym (part_word (b ∷ bs) b bs refl (sym l)) ∙ e) (word_cut b bs l))
@@ -273,21 +273,18 @@ lexed_next p bs rest e r =
 -- where the lexer finds no part, the bytes are malformed from there on
 
 numbered_refused : (o : Option ℕ) (bs rest from : List ℕ) (e : ℕ → TextFault) → numbered o bs rest ≡ no e from → (e ≡ Malformed) × (from ≡ bs)
-numbered_refused (Some n) bs rest from e h = absurd (let z : ◌≡◌ {A = ℕ} 0 1 = cc in omega arith)
+numbered_refused (Some n) bs rest from e h = cc
 numbered_refused None bs rest from e h = (cc, cc)
 
 mark_refused : (t : Bool) (b : ℕ) (bs from : List ℕ) (e : ℕ → TextFault) → cond t (got (mark b) bs) (no Malformed (b ∷ bs)) ≡ no e from → (e ≡ Malformed) × (from ≡ b ∷ bs)
-mark_refused true b bs from e h = absurd (let z : ◌≡◌ {A = ℕ} 0 1 = cc in omega arith)
+mark_refused true b bs from e h = cc
 mark_refused false b bs from e h = (cc, cc)
 
-never_refused : (p : Part) (bs rest from : List ℕ) (e : ℕ → TextFault) → part bs ≡ got p rest → part bs ≡ no e from → ⊥
-never_refused p bs rest from e g h = let z : ◌≡◌ {A = ℕ} 0 1 = cc in omega arith
-
 pub part_refused : (bs from : List ℕ) (e : ℕ → TextFault) → part bs ≡ no e from → (e ≡ Malformed) × (from ≡ bs)
-part_refused [] from e h = absurd (never_refused end [] [] from e refl h)
+part_refused [] from e h = cc
 part_refused (b ∷ bs) from e h =
     ⊎_elim
-    (λ (l : is_of Letter b ≡ true). absurd (never_refused _ (b ∷ bs) _ from e (part_word (b ∷ bs) b bs refl (sym l)) h))
+    (λ (l : is_of Letter b ≡ true). let word = part_word (b ∷ bs) b bs refl (sym l) in cc)
     (λ (l : is_of Letter b ≡ false). ⊎_elim
     (λ (d : is_of Digit b ≡ true). numbered_refused (numeral (take (run Digit (b ∷ bs)) (b ∷ bs))) (b ∷ bs) _ from e (sym (part_number (b ∷ bs) b bs refl (sym l) (sym d)) ∙ h))
     (λ (d : is_of Digit b ≡ false). mark_refused (is_mark b) b bs from e (sym (part_mark (b ∷ bs) b bs refl (sym l) (sym d)) ∙ h))
@@ -298,11 +295,11 @@ part_refused (b ∷ bs) from e h =
 
 numbered_real : (o : Option ℕ) (bs rest more : List ℕ) (p : Part) → numbered o bs rest ≡ got p more → real p ≡ true
 numbered_real (Some n) bs rest more p h = let same : number n ≡ p = cc in ap real (sym same)
-numbered_real None bs rest more p h = absurd (let z : ◌≡◌ {A = ℕ} 0 1 = cc in omega arith)
+numbered_real None bs rest more p h = cc
 
 mark_real : (t : Bool) (b : ℕ) (bs more : List ℕ) (p : Part) → cond t (got (mark b) bs) (no Malformed (b ∷ bs)) ≡ got p more → real p ≡ true
 mark_real true b bs more p h = let same : mark b ≡ p = cc in ap real (sym same)
-mark_real false b bs more p h = absurd (let z : ◌≡◌ {A = ℕ} 0 1 = cc in omega arith)
+mark_real false b bs more p h = cc
 
 word_real : (w rest more : List ℕ) (p : Part) → got (word w) rest ≡ got p more → real p ≡ true
 word_real w rest more p h = let same : word w ≡ p = cc in ap real (sym same)
@@ -319,4 +316,4 @@ part_real b bs more p h =
 
 pub at_end : (bs : List ℕ) (p : Part) (more : List ℕ) → part bs ≡ got p more → real p ≡ false → bs ≡ []
 at_end [] p more e r = refl
-at_end (b ∷ bs) p more e r = absurd (let one = part_real b bs more p e in let z : ◌≡◌ {A = ℕ} 0 1 = cc in omega arith)
+at_end (b ∷ bs) p more e r = let one = part_real b bs more p e in cc

@@ -11,5 +11,3 @@ pub mod Refusals
 pub mod Filling
 pub mod Places
 pub mod Drafts
-pub mod Decimal
-pub mod Puts

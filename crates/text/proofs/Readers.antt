@@ -83,11 +83,11 @@ beginnings {X} (x ∷ xs) (y ∷ ys) us vs e =
 
 taken_got : {A : Type 0} (r : Result A (ℕ → TextFault)) (from rest more : List ℕ) (a : A) → taken r from rest ≡ got a more → (r ≡ Ok a) × (rest ≡ more)
 taken_got (Ok b) from rest more a e = (cc, cc)
-taken_got (Err f) from rest more a e = absurd (let z : ◌≡◌ {A = ℕ} 0 1 = cc in omega arith)
+taken_got (Err f) from rest more a e = cc
 
 due_got : {A : Type 0} (f : Part → Result A (ℕ → TextFault)) (g : Got Part) (from rest : List ℕ) (a : A) → on g (λ p. taken (f p) from) ≡ got a rest → (p : Part) × (g ≡ got p rest) × (f p ≡ Ok a)
 due_got f (got p more) from rest a e = let t = taken_got (f p) from more rest a e in (p, ap (got p) t.1, t.0)
-due_got f (no h more) from rest a e = absurd (let z : ◌≡◌ {A = ℕ} 0 1 = cc in omega arith)
+due_got f (no h more) from rest a e = cc
 
 -- what one part is taken for: it is refused as out of range only where it is a number and another number would do, else as unexpected, and then no number would do
 pub record Takes {A : Type 0} (f : Part → Result A (ℕ → TextFault)) (p : A → Part) (Fits : A → Type 0) : Type 0 where
@@ -111,8 +111,7 @@ module _ {A : Type 0} (f : Part → Result A (ℕ → TextFault)) (p : A → Par
   refused_never q e h g =
       let a = goes_taken q g in
       let both : Ok a.0 ≡ Err e = sym (t.takes a.0 a.1) ∙ ap f a.2 ∙ h in
-      let z : ◌≡◌ {A = ℕ} 0 1 = cc in
-      omega arith
+      cc
 
   some_goes : (a : A) → Fits a → GoesOn one_part Fits [] (p a)
   some_goes a h = record { thing = a; fits = h; later = []; is = refl }
@@ -146,7 +145,7 @@ module _ {A : Type 0} (f : Part → Result A (ℕ → TextFault)) (p : A → Par
       (t.misses q e h)
 
   taken_no : (r : Result A (ℕ → TextFault)) (here rest from : List ℕ) (e : ℕ → TextFault) → taken r here rest ≡ no e from → (r ≡ Err e) × (from ≡ here)
-  taken_no (Ok a) here rest from e h = absurd (let z : ◌≡◌ {A = ℕ} 0 1 = cc in omega arith)
+  taken_no (Ok a) here rest from e h = cc
   taken_no (Err x) here rest from e h = (cc, cc)
 
   due_fails : (bs : List ℕ) (e : ℕ → TextFault) (from : List ℕ) (g : Got Part) → part (skip bs) ≡ g → on g (λ q. taken (f q) (skip bs)) ≡ no e from → Refusal one_part Fits bs e from
@@ -191,7 +190,7 @@ spelt_done v = record {
   some = v;
   some_fits = refl;
   free = λ a b h k later e. k ∙ sym h;
-  fails = λ bs e from h. absurd (let z : ◌≡◌ {A = ℕ} 0 1 = cc in omega arith);
+  fails = λ bs e from h. cc;
 }
 
 -- the same parts and the same fit under other names
@@ -229,10 +228,10 @@ module _ {A : Type 0} {d : Reader A} {f g : A → List Part} {P Q : A → Type 0
 
 on_got : {A B : Type 0} (g : Got A) (k : A → Reader B) (b : B) (rest : List ℕ) → on g k ≡ got b rest → (a : A) × (more : List ℕ) × (g ≡ got a more) × (k a more ≡ got b rest)
 on_got (got a more) k b rest e = (a, more, refl, e)
-on_got (no f from) k b rest e = absurd (let z : ◌≡◌ {A = ℕ} 0 1 = cc in omega arith)
+on_got (no f from) k b rest e = cc
 
 pub never_both : {A : Type 0} (g : Got A) (a : A) (rest : List ℕ) (e : ℕ → TextFault) (from : List ℕ) → g ≡ got a rest → g ≡ no e from → ⊥
-never_both g a rest e from h k = let z : ◌≡◌ {A = ℕ} 0 1 = cc in omega arith
+never_both g a rest e from h k = cc
 
 module _ {A B : Type 0} (d : Reader A) (k : A → Reader B) (first : A → List Part) (P : A → Type 0) (second : A → B → List Part) (Q : A → B → Type 0) (again : B → A) (found : (a : A) (b : B) → P a → Q a b → again b ≡ a) (s : Spelt d first P) where
   abbrev both_parts : B → List Part
@@ -420,7 +419,7 @@ module _ {A : Type 0} (d : Reader A) (f : A → List Part) (P : A → Type 0) (s
   several_head n (x ∷ xs) h = ((h.1.0, ((omega (arith, h.0), h.1.1), refl)), ap (λ ps. f x ++ ps) (sym (append-nil (flat_map f xs))))
 
   head_several : (n : ℕ) (xs : List A) → HeadFits n xs → Several P (suc n) xs × (flat_map f xs ≡ f (head xs) ++ (flat_map f (tail xs) ++ []))
-  head_several n [] h = absurd (let e : [] ≡ s.some ∷ [] = h.1.1 in let z : ◌≡◌ {A = ℕ} 0 1 = cc in omega arith)
+  head_several n [] h = let e : [] ≡ s.some ∷ [] = h.1.1 in cc
   head_several n (x ∷ xs) h = ((ap suc h.1.0.0, (h.0, h.1.0.1)), ap (λ ps. f x ++ ps) (sym (append-nil (flat_map f xs))))
 
   none_several : (xs : List A) → Several P 0 xs → (xs ≡ []) × (flat_map f xs ≡ [])

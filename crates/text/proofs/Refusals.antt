@@ -113,7 +113,7 @@ module _ (text : List ℕ) (from : ℕ) (few : length text ≤ max_bytes) (e : �
   refused_why (inr (inr w)) = subst (λ (x : ℕ → TextFault). Refused text from (x at)) (sym w.0) (stopped, other_part w.1)
 
 placed_no : (t : List ℕ) (g : Got Draft) (f : TextFault) → placed t g ≡ Err f → (e : ℕ → TextFault) × (left : List ℕ) × (g ≡ no e left) × (f ≡ e (length t - length left))
-placed_no t (got d rest) f h = absurd (let z : ◌≡◌ {A = ℕ} 0 1 = cc in omega arith)
+placed_no t (got d rest) f h = cc
 placed_no t (no e left) f h = (e, left, refl, cc)
 
 refused_by : (text : List ℕ) (from : ℕ) (f : TextFault) (b : Bool) → ltb max_bytes (length text) ≡ b → cond b (Err TooLong) (reading_from text from) ≡ Err f → Refused text from f
@@ -233,7 +233,7 @@ module _ (text : List ℕ) (from at : ℕ) (s : Stopped text from at) where
   range_halts o = record { at = at; stop = s; kind = OutOfRange; is = refl; why = inr (inl (refl, record { found = o.found; rest = o.more; is = next_there (number o.found) o.more o.is; never = o.never; other = o.other; goes = o.goes })) }
 
   other_halts : (drop at text ≡ []) ⊎ OtherPart s.before text at → Halts text from (Unexpected at)
-  other_halts (inl nothing) = record { at = at; stop = s; kind = Unexpected; is = refl; why = inr (inr (refl, record { found = end; rest = []; is = ap part (there ∙ nothing); never = λ go. goes_proper s.before end go; no_number = λ n m e go. let z : ◌≡◌ {A = ℕ} 0 1 = cc in omega arith })) }
+  other_halts (inl nothing) = record { at = at; stop = s; kind = Unexpected; is = refl; why = inr (inr (refl, record { found = end; rest = []; is = ap part (there ∙ nothing); never = λ go. goes_proper s.before end go; no_number = λ n m e go. cc })) }
   other_halts (inr o) = record { at = at; stop = s; kind = Unexpected; is = refl; why = inr (inr (refl, record { found = o.found; rest = o.more; is = next_there o.found o.more o.is; never = o.never; no_number = o.no_number })) }
 
 refused_halts : (text : List ℕ) (from : ℕ) (f : TextFault) → length text ≤ max_bytes → Refused text from f → Halts text from f

@@ -1,5 +1,5 @@
 -- The parts of states, guards, rows and drafts, and that the grammar reads each from exactly its parts.
-use Rattle.std.proofs.Common.{◌≡◌, ℕ, ◌+◌, ◌<◌, ◌≤◌, Bool, true, false, cond, ◌&&◌, eqb, ltb, leb, ◌⊎◌, List, [], ◌∷◌, ◌++◌, Some, None, Ok, Err, codes, Option, Result, sym, refl, ap, ◌∙◌, subst, inl, inr, ⊎_elim, arith}
+use Rattle.std.proofs.Common.{◌≡◌, ℕ, ◌+◌, ◌<◌, ◌≤◌, Bool, true, false, cond, ◌&&◌, eqb, ltb, leb, ◌⊎◌, List, [], ◌∷◌, ◌++◌, Some, None, Ok, Err, codes, Option, Result, sym, refl, ap, ◌∙◌, subst, inl, inr, arith}
 use Rattle.std.proofs.lemmas.Slice.Eq.{bytes_eq-Decides}
 use Rattle.std.proofs.lemmas.Bool.{and_from, and_parts, le-leb, lt-ltb, leb-true, ltb-true, eqb-true, eq-eqb, cond-true}
 use Rattle.text.specs.declared.draft.End.{End}
@@ -13,10 +13,12 @@ use Rattle.text.specs.declared.draft.State.TheVariants.{Stay, Hold}
 use Rattle.text.specs.declared.fault.TextFault.{TextFault}
 use Rattle.text.specs.declared.fault.TextFault.TheVariants.{Unexpected, OutOfRange}
 use Rattle.text.specs.Draft.{timeout_of, target_of, day_of, StateRanged, GuardRanged, RowRanged}
-use Rattle.text.specs.Grammar.{◌>>=◌, done, due, as_number, is_word, as_word, as_holds, as_high, or_unexpected, opens, closes, only, as_mark, number_in, section, hold, state, closed, guarded, row}
+use Rattle.text.specs.declared.mark.Side.{Side}
+use Rattle.text.specs.declared.mark.Side.TheVariants.{Low, High as HighSide}
+use Rattle.text.specs.Grammar.{◌>>=◌, done, due, as_number, is_word, as_word, as_holds, as_high, or_unexpected, opens, closes, ends, only, as_mark, number_in, section, hold, state, closed, guarded, row}
 use Rattle.text.specs.Limits.{max_days}
 use Rattle.text.specs.Token.{Part, word, number, mark, end}
-use Rattle.text.specs.Write.{opener, closer}
+use Rattle.text.specs.Write.{opener, closer, mark_of}
 use Rattle.text.proofs.Lexing.{real}
 use Rattle.text.proofs.Readers.{Spelt, spelt_due, spelt_done, spelt_then, spelt_as}
 
@@ -42,26 +44,11 @@ Range low limit n = (low ≤ n) × (n < limit)
 
 if_ok : {A E : Type 0} (t : Bool) (x y : A) (e : E) → cond t (Ok x) (Err e) ≡ Ok y → (t ≡ true) × (x ≡ y)
 if_ok true x y e h = (refl, cc)
-if_ok false x y e h = absurd (let z : ◌≡◌ {A = ℕ} 0 1 = cc in omega arith)
-
-not_ok : {A E : Type 0} (e : E) (x : A) → Err e ≡ Ok x → ⊥
-not_ok e x h = let z : ◌≡◌ {A = ℕ} 0 1 = cc in omega arith
-
-err_same : {A E : Type 0} (e f : E) → ◌≡◌ {A = Result A E} (Err e) (Err f) → f ≡ e
-err_same e f h = cc
+if_ok false x y e h = cc
 
 if_err : {A E : Type 0} (t : Bool) (x : A) (e f : E) → cond t (Ok x) (Err e) ≡ Err f → f ≡ e
-if_err true x e f h = absurd (let z : ◌≡◌ {A = ℕ} 0 1 = cc in omega arith)
+if_err true x e f h = cc
 if_err false x e f h = cc
-
-not_number_word : (w : List ℕ) (n : ℕ) → word w ≡ number n → ⊥
-not_number_word w n e = let z : ◌≡◌ {A = ℕ} 0 1 = cc in omega arith
-
-not_number_mark : (c n : ℕ) → mark c ≡ number n → ⊥
-not_number_mark c n e = let z : ◌≡◌ {A = ℕ} 0 1 = cc in omega arith
-
-not_number_end : (n : ℕ) → end ≡ number n → ⊥
-not_number_end n e = let z : ◌≡◌ {A = ℕ} 0 1 = cc in omega arith
 
 -- what takes no number refuses every part as unexpected
 none_misses : {A : Type 0} (f : Part → Result A (ℕ → TextFault)) (p : A → Part) (Fits : A → Type 0) → ((q : Part) (e : ℕ → TextFault) → f q ≡ Err e → e ≡ Unexpected) → ((a : A) (m : ℕ) → p a ≡ number m → ⊥) → (q : Part) (e : ℕ → TextFault) → f q ≡ Err e
@@ -72,21 +59,21 @@ none_misses f p Fits unexpected never q e h = inr (unexpected q e h, λ n m a is
 -- numbers
 
 number_only : (low limit : ℕ) (q : Part) (n : ℕ) → as_number low limit q ≡ Ok n → (q ≡ number n) × Range low limit n
-number_only low limit (word w) n e = absurd (not_ok _ _ e)
+number_only low limit (word w) n e = cc
 number_only low limit (number m) n e =
     let t = if_ok _ m n OutOfRange e in
     let p = and_parts (leb low m) (ltb m limit) t.0 in
     (ap number t.1, subst (Range low limit) t.1 (leb-true low m p.0, ltb-true m limit p.1))
-number_only low limit (mark c) n e = absurd (not_ok _ _ e)
-number_only low limit end n e = absurd (not_ok _ _ e)
+number_only low limit (mark c) n e = cc
+number_only low limit end n e = cc
 
 number_misses : (low limit : ℕ) → low < limit → (q : Part) (e : ℕ → TextFault) → as_number low limit q ≡ Err e
     → ((e ≡ OutOfRange) × ((n : ℕ) × (q ≡ number n)) × ((m : ℕ) × (a : ℕ) × Range low limit a × (number a ≡ number m)))
     ⊎ ((e ≡ Unexpected) × ((n m a : ℕ) → q ≡ number n → Range low limit a → number a ≡ number m → ⊥))
-number_misses low limit some (word w) e h = inr (err_same Unexpected e h, λ n m a is r z. not_number_word w n is)
+number_misses low limit some (word w) e h = inr (cc, λ n m a is r z. cc)
 number_misses low limit some (number n) e h = inl (if_err (leb low n && ltb n limit) n OutOfRange e h, (n, refl), (low, low, (omega arith, some), refl))
-number_misses low limit some (mark c) e h = inr (err_same Unexpected e h, λ n m a is r z. not_number_mark c n is)
-number_misses low limit some end e h = inr (err_same Unexpected e h, λ n m a is r z. not_number_end n is)
+number_misses low limit some (mark c) e h = inr (cc, λ n m a is r z. cc)
+number_misses low limit some end e h = inr (cc, λ n m a is r z. cc)
 
 pub spelt_number : (low limit : ℕ) → low < limit → Spelt (number_in low limit) (λ n. number n ∷ []) (Range low limit)
 spelt_number low limit some = spelt_due (as_number low limit) number (Range low limit) (record {
@@ -102,9 +89,9 @@ spelt_number low limit some = spelt_due (as_number low limit) number (Range low 
 
 is_word_only : (w : List ℕ) (q : Part) → is_word w q ≡ true → q ≡ word w
 is_word_only w (word v) e = ap word ((bytes_eq-Decides v w).0 e)
-is_word_only w (number n) e = absurd (let z : ◌≡◌ {A = ℕ} 0 1 = cc in omega arith)
-is_word_only w (mark c) e = absurd (let z : ◌≡◌ {A = ℕ} 0 1 = cc in omega arith)
-is_word_only w end e = absurd (let z : ◌≡◌ {A = ℕ} 0 1 = cc in omega arith)
+is_word_only w (number n) e = cc
+is_word_only w (mark c) e = cc
+is_word_only w end e = cc
 
 spelt_word : (w : List ℕ) → Spelt (due (as_word w)) (λ u. word w ∷ []) (λ u. Unit {0})
 spelt_word w = spelt_due (as_word w) (λ u. word w) (λ u. Unit {0}) (record {
@@ -113,7 +100,7 @@ spelt_word w = spelt_due (as_word w) (λ u. word w) (λ u. Unit {0}) (record {
   only = λ q u e. (is_word_only w q (if_ok _ tt u Unexpected e).0, tt);
   some = tt;
   some_fits = tt;
-  misses = none_misses (as_word w) (λ u. word w) (λ u. Unit {0}) (λ q e h. if_err (is_word w q) tt Unexpected e h) (λ u m. not_number_word w m);
+  misses = none_misses (as_word w) (λ u. word w) (λ u. Unit {0}) (λ q e h. if_err (is_word w q) tt Unexpected e h) (λ u m e. cc);
 })
 
 -- the head of a section
@@ -129,20 +116,20 @@ holds_word true = word (codes "hold")
 holds_word false = word (codes "stay")
 
 holds_only : (q : Part) (s t b : Bool) → is_word (codes "stay") q ≡ s → is_word (codes "hold") q ≡ t → ◌≡◌ {A = Result Bool (ℕ → TextFault)} (cond s (Ok false) (cond t (Ok true) (Err Unexpected))) (Ok b) → q ≡ holds_word b
-holds_only q true t true x y e = absurd (let z : ◌≡◌ {A = ℕ} 0 1 = cc in omega arith)
+holds_only q true t true x y e = cc
 holds_only q true t false x y e = is_word_only (codes "stay") q x
 holds_only q false true true x y e = is_word_only (codes "hold") q y
-holds_only q false true false x y e = absurd (let z : ◌≡◌ {A = ℕ} 0 1 = cc in omega arith)
-holds_only q false false b x y e = absurd (not_ok _ _ e)
+holds_only q false true false x y e = cc
+holds_only q false false b x y e = cc
 
 holds_err : (s t : Bool) (e : ℕ → TextFault) → ◌≡◌ {A = Result Bool (ℕ → TextFault)} (cond s (Ok false) (cond t (Ok true) (Err Unexpected))) (Err e) → e ≡ Unexpected
-holds_err true t e h = absurd (let z : ◌≡◌ {A = ℕ} 0 1 = cc in omega arith)
-holds_err false true e h = absurd (let z : ◌≡◌ {A = ℕ} 0 1 = cc in omega arith)
+holds_err true t e h = cc
+holds_err false true e h = cc
 holds_err false false e h = cc
 
 holds_never : (b : Bool) (m : ℕ) → holds_word b ≡ number m → ⊥
-holds_never true m e = not_number_word (codes "hold") m e
-holds_never false m e = not_number_word (codes "stay") m e
+holds_never true m e = cc
+holds_never false m e = cc
 
 holds_real : (b : Bool) → real (holds_word b) ≡ true
 holds_real true = refl
@@ -209,23 +196,23 @@ spelt_state n some =
 
 or_found : {A : Type 0} (o : Option A) (a : A) → or_unexpected o ≡ Ok a → o ≡ Some a
 or_found (Some b) a e = cc
-or_found None a e = absurd (not_ok _ _ e)
+or_found None a e = cc
 
 or_err : {A : Type 0} (o : Option A) (e : ℕ → TextFault) → or_unexpected o ≡ Err e → e ≡ Unexpected
-or_err (Some a) e h = absurd (let z : ◌≡◌ {A = ℕ} 0 1 = cc in omega arith)
-or_err None e h = err_same Unexpected e h
+or_err (Some a) e h = cc
+or_err None e h = cc
 
 mark_only : {A : Type 0} (f : ℕ → Option A) (g : A → ℕ) → ((c : ℕ) (a : A) → f c ≡ Some a → c ≡ g a) → (q : Part) (a : A) → as_mark f q ≡ Ok a → (q ≡ mark (g a)) × Unit {0}
-mark_only f g found (word w) a e = absurd (not_ok _ _ e)
-mark_only f g found (number n) a e = absurd (not_ok _ _ e)
+mark_only f g found (word w) a e = cc
+mark_only f g found (number n) a e = cc
 mark_only f g found (mark c) a e = (ap mark (found c a (or_found (f c) a e)), tt)
-mark_only f g found end a e = absurd (not_ok _ _ e)
+mark_only f g found end a e = cc
 
 mark_err : {A : Type 0} (f : ℕ → Option A) (q : Part) (e : ℕ → TextFault) → as_mark f q ≡ Err e → e ≡ Unexpected
-mark_err f (word w) e h = err_same Unexpected e h
-mark_err f (number n) e h = err_same Unexpected e h
+mark_err f (word w) e h = cc
+mark_err f (number n) e h = cc
 mark_err f (mark c) e h = or_err (f c) e h
-mark_err f end e h = err_same Unexpected e h
+mark_err f end e h = cc
 
 spelt_mark : {A : Type 0} (f : ℕ → Option A) (g : A → ℕ) → A → ((a : A) → f (g a) ≡ Some a) → ((c : ℕ) (a : A) → f c ≡ Some a → c ≡ g a) → Spelt (due (as_mark f)) (λ a. mark (g a) ∷ []) (λ a. Unit {0})
 spelt_mark f g some takes found = spelt_due (as_mark f) (λ a. mark (g a)) (λ a. Unit {0}) (record {
@@ -234,41 +221,38 @@ spelt_mark f g some takes found = spelt_due (as_mark f) (λ a. mark (g a)) (λ a
   only = mark_only f g found;
   some = some;
   some_fits = tt;
-  misses = none_misses (as_mark f) (λ a. mark (g a)) (λ a. Unit {0}) (mark_err f) (λ a m. not_number_mark (g a) m);
+  misses = none_misses (as_mark f) (λ a. mark (g a)) (λ a. Unit {0}) (mark_err f) (λ a m e. cc);
 })
 
 -- one of two marks
 either_found : {A : Type 0} (c m n : ℕ) (s t : Bool) (x y a : A) → eqb c m ≡ s → eqb c n ≡ t → cond s (Some x) (cond t (Some y) None) ≡ Some a → ((c ≡ m) × (a ≡ x)) ⊎ ((c ≡ n) × (a ≡ y))
 either_found c m n true t x y a p q e = inl (eqb-true c m p, cc)
 either_found c m n false true x y a p q e = inr (eqb-true c n q, cc)
-either_found c m n false false x y a p q e = absurd (let z : ◌≡◌ {A = ℕ} 0 1 = cc in omega arith)
+either_found c m n false false x y a p q e = cc
 
-opener_opens : (e : End) → opens (opener e) ≡ Some e
-opener_opens Shut = refl
-opener_opens Open = refl
+mark_ends : (s : Side) (e : End) → ends s (mark_of s e) ≡ Some e
+mark_ends Low Shut = refl
+mark_ends Low Open = refl
+mark_ends HighSide Shut = refl
+mark_ends HighSide Open = refl
 
-closer_closes : (e : End) → closes (closer e) ≡ Some e
-closer_closes Shut = refl
-closer_closes Open = refl
+by_end : (s : Side) (c : ℕ) (e : End) → ((c ≡ mark_of s Shut) × (e ≡ Shut)) ⊎ ((c ≡ mark_of s Open) × (e ≡ Open)) → c ≡ mark_of s e
+by_end s c e (inl p) = p.0 ∙ ap (mark_of s) (sym p.1)
+by_end s c e (inr p) = p.0 ∙ ap (mark_of s) (sym p.1)
 
-opens_only : (c : ℕ) (e : End) → opens c ≡ Some e → c ≡ opener e
-opens_only c e h = ⊎_elim (λ p. p.0 ∙ ap opener (sym p.1)) (λ p. p.0 ∙ ap opener (sym p.1)) (either_found c 91 40 _ _ Shut Open e refl refl h)
-
-closes_only : (c : ℕ) (e : End) → closes c ≡ Some e → c ≡ closer e
-closes_only c e h = ⊎_elim (λ p. p.0 ∙ ap closer (sym p.1)) (λ p. p.0 ∙ ap closer (sym p.1)) (either_found c 93 41 _ _ Shut Open e refl refl h)
+ends_only : (s : Side) (c : ℕ) (e : End) → ends s c ≡ Some e → c ≡ mark_of s e
+ends_only Low c e h = by_end Low c e (either_found c 91 40 _ _ Shut Open e refl refl h)
+ends_only HighSide c e h = by_end HighSide c e (either_found c 93 41 _ _ Shut Open e refl refl h)
 
 only_found : (c m : ℕ) (t : Bool) (u : Unit {0}) → eqb c m ≡ t → cond t (Some tt) None ≡ Some u → c ≡ m
 only_found c m true u p e = eqb-true c m p
-only_found c m false u p e = absurd (let z : ◌≡◌ {A = ℕ} 0 1 = cc in omega arith)
+only_found c m false u p e = cc
 
 spelt_only : (m : ℕ) → Spelt (due (as_mark (only m))) (λ u. mark m ∷ []) (λ u. Unit {0})
 spelt_only m = spelt_mark (only m) (λ u. m) tt (λ u. cond-true _ (Some tt) None (eq-eqb m m refl)) (λ c u e. only_found c m _ u refl e)
 
-spelt_opening : Spelt (due (as_mark opens)) (λ e. mark (opener e) ∷ []) (λ e. Unit {0})
-spelt_opening = spelt_mark opens opener Shut opener_opens opens_only
-
-spelt_closing : Spelt (due (as_mark closes)) (λ e. mark (closer e) ∷ []) (λ e. Unit {0})
-spelt_closing = spelt_mark closes closer Shut closer_closes closes_only
+spelt_end : (s : Side) → Spelt (due (as_mark (ends s))) (λ e. mark (mark_of s e) ∷ []) (λ e. Unit {0})
+spelt_end s = spelt_mark (ends s) (mark_of s) Shut (mark_ends s) (ends_only s)
 
 -- guards
 
@@ -294,16 +278,16 @@ day_only (word w) o e =
 day_only (number n) o e =
     let t = if_ok (leb n max_days) (Some n) o OutOfRange e in
     (ap day_part t.1, subst DayFits t.1 (leb-true n max_days t.0))
-day_only (mark c) o e = absurd (not_ok _ _ e)
-day_only end o e = absurd (not_ok _ _ e)
+day_only (mark c) o e = cc
+day_only end o e = cc
 
 day_misses : (q : Part) (e : ℕ → TextFault) → as_high q ≡ Err e
     → ((e ≡ OutOfRange) × ((n : ℕ) × (q ≡ number n)) × ((m : ℕ) × (o : Option ℕ) × DayFits o × (day_part o ≡ number m)))
     ⊎ ((e ≡ Unexpected) × ((n m : ℕ) (o : Option ℕ) → q ≡ number n → DayFits o → day_part o ≡ number m → ⊥))
-day_misses (word w) e h = inr (if_err _ None Unexpected e h, λ n m o is r z. not_number_word w n is)
+day_misses (word w) e h = inr (if_err _ None Unexpected e h, λ n m o is r z. cc)
 day_misses (number n) e h = inl (if_err (leb n max_days) (Some n) OutOfRange e h, (n, refl), (0, Some 0, omega arith, refl))
-day_misses (mark c) e h = inr (err_same Unexpected e h, λ n m o is r z. not_number_mark c n is)
-day_misses end e h = inr (err_same Unexpected e h, λ n m o is r z. not_number_end n is)
+day_misses (mark c) e h = inr (cc, λ n m o is r z. cc)
+day_misses end e h = inr (cc, λ n m o is r z. cc)
 
 spelt_day : Spelt (due as_high) (λ o. day_part o ∷ []) DayFits
 spelt_day = spelt_due as_high day_part DayFits (record { one = day_real; takes = day_taken; only = day_only; some = None; some_fits = omega arith; misses = day_misses })
@@ -325,7 +309,7 @@ ClosingFits (Some n) h = Unit {0} × (h ≡ At n (end_in h))
 ClosingFits None h = Unit {0} × (h ≡ Inf)
 
 spelt_closed : (o : Option ℕ) → Spelt (closed o) (closing_parts o) (ClosingFits o)
-spelt_closed (Some n) = spelt_then (due (as_mark closes)) (λ e. done (At n e)) (λ e. mark (closer e) ∷ []) (λ e. Unit {0}) (λ e h. []) (λ e h. h ≡ At n e) end_in (λ e h p q. ap end_in q) spelt_closing (λ e. spelt_done (At n e))
+spelt_closed (Some n) = spelt_then (due (as_mark closes)) (λ e. done (At n e)) (λ e. mark (closer e) ∷ []) (λ e. Unit {0}) (λ e h. []) (λ e h. h ≡ At n e) end_in (λ e h p q. ap end_in q) (spelt_end HighSide) (λ e. spelt_done (At n e))
 spelt_closed None = spelt_then (due (as_mark (only 41))) (λ u. done Inf) (λ u. mark 41 ∷ []) (λ u. Unit {0}) (λ u h. []) (λ u h. h ≡ Inf) (λ h. tt) (λ u h p q. refl) (spelt_only 41) (λ u. spelt_done Inf)
 
 closing_day : (o : Option ℕ) (h : High) → ClosingFits o h → day_in h ≡ o
@@ -353,7 +337,7 @@ guard_spelt : Spelt guarded (λ g. (mark (opener g.end) ∷ []) ++ ((number g.lo
 guard_spelt =
     spelt_then (due (as_mark opens)) _ (λ e. mark (opener e) ∷ []) (λ e. Unit {0}) (λ e g. (number g.low ∷ []) ++ ((mark 44 ∷ []) ++ high_spelt g)) (λ e g. Range 0 (max_days + 1) g.low × (Unit {0} × HighFits e g.low g)) (λ g. g.end)
     (λ e g p q. ap (λ (x : Guard). x.end) q.1.1.1.1)
-    spelt_opening
+    (spelt_end Low)
     (λ e. spelt_then (number_in 0 (max_days + 1)) _ (λ n. number n ∷ []) (Range 0 (max_days + 1)) (λ low g. (mark 44 ∷ []) ++ high_spelt g) (λ low g. Unit {0} × HighFits e low g) (λ g. g.low)
     (λ low g p q. ap (λ (x : Guard). x.low) q.1.1.1)
     (spelt_number 0 (max_days + 1) (omega arith))

@@ -1,9 +1,11 @@
 -- What the lexer's calls say of the part at a place.
-use Rattle.std.proofs.Common.{◌≡◌, ℕ, ◌+◌, ◌-◌, ◌<◌, ◌≤◌, true, false, cond, List, [], ◌∷◌, length, get_or, take, drop, Some, None, Option, sym, ap, ◌∙◌, arith, length-drop}
+use Rattle.std.proofs.Common.{◌≡◌, ℕ, ◌+◌, ◌-◌, ◌<◌, ◌≤◌, true, false, ltb, cond, List, [], ◌∷◌, length, get_or, take, drop, Some, Option, sym, ap, ◌∙◌, ⊎_elim, arith, length-drop}
 use Rattle.std.proofs.lemmas.List.{drop-drop, drop_more, drop_all}
+use Rattle.std.specs.Bool.{then_some}
+use Rattle.std.proofs.lemmas.Bool.{cases_lt, lt-ltb, le-ltb}
 use Rattle.text.specs.declared.token.Kind.{Kind}
 use Rattle.text.specs.declared.token.Kind.TheVariants.{Blank, Letter, Digit}
-use Rattle.text.specs.Token.{is_of, is_mark, run, numeral, word, number, mark, end, got, no, numbered, skip, part, first_part}
+use Rattle.text.specs.Token.{is_of, is_mark, run, numeral, word, mark, got, no, numbered, skip, part, first_part}
 use Rattle.text.specs.declared.fault.TextFault.TheVariants.{Malformed}
 
 -- past a run that ends at e
@@ -26,34 +28,27 @@ module _ (xs : List ℕ) (at start : ℕ) (from : start ≡ at + run Blank (drop
   pub skipped : skip (drop at xs) ≡ drop start xs
   skipped = past_run Blank xs at start from
 
-  pub at_end : length xs ≤ start → (part (skip (drop at xs)) ≡ got end (drop (length xs) xs)) × (skip (drop at xs) ≡ drop (length xs) xs)
-  at_end h =
-      let none : skip (drop at xs) ≡ [] = skipped ∙ drop_all start xs h in
-      let all : drop (length xs) xs ≡ [] = drop_all (length xs) xs (omega arith) in
-      (rw (none, all), none ∙ sym all)
-
-  pub first_some : start < length xs → Some start ≡ first_part xs at
-  first_some h =
+  pub first_is : then_some (ltb start (length xs)) start ≡ first_part xs at
+  first_is =
+      ⊎_elim
+      (λ (h : start < length xs).
       let is : skip (drop at xs) ≡ get_or xs start 0 ∷ drop (start + 1) xs = skipped ∙ drop_more xs start 0 h in
       let place : start ≡ length xs - length (get_or xs start 0 ∷ drop (start + 1) xs) = simp length-drop (omega arith) in
-      rw is (ap Some place)
+      rw (lt-ltb _ _ h, is) (ap Some place))
+      (λ (h : length xs ≤ start). let none : skip (drop at xs) ≡ [] = skipped ∙ drop_all start xs h in rw (le-ltb _ _ h, none))
+      (cases_lt start (length xs))
 
-  pub first_none : length xs ≤ start → None ≡ first_part xs at
-  first_none h = let none : skip (drop at xs) ≡ [] = skipped ∙ drop_all start xs h in rw none
+  module _ (b : ℕ) (h : start < length xs) (first : b ≡ get_or xs start 0) where
+    rest : drop start xs ≡ b ∷ drop (start + 1) xs
+    rest = drop_more xs start 0 h ∙ ap (λ x. x ∷ drop (start + 1) xs) (sym first)
 
-  pub at_word : (e : ℕ) → start < length xs → true ≡ is_of Letter (get_or xs start 0) → e ≡ start + run Letter (drop start xs) → part (skip (drop at xs)) ≡ got (word (take (e - start) (drop start xs))) (drop e xs)
-  at_word e h l to =
-      ap part skipped ∙ part_word (drop start xs) _ _ (drop_more xs start 0 h) l ∙ (λ i. got (word (taken_run Letter xs start e to i)) (past_run Letter xs start e to i))
+    pub at_word : (e : ℕ) → true ≡ is_of Letter b → e ≡ start + run Letter (drop start xs) → part (skip (drop at xs)) ≡ got (word (take (e - start) (drop start xs))) (drop e xs)
+    at_word e l to =
+        ap part skipped ∙ part_word (drop start xs) _ _ rest l ∙ (λ i. got (word (taken_run Letter xs start e to i)) (past_run Letter xs start e to i))
 
-  pub at_number : (e : ℕ) → start < length xs → false ≡ is_of Letter (get_or xs start 0) → true ≡ is_of Digit (get_or xs start 0) → e ≡ start + run Digit (drop start xs) → part (skip (drop at xs)) ≡ numbered (numeral (take (e - start) (drop start xs))) (drop start xs) (drop e xs)
-  at_number e h l d to =
-      ap part skipped ∙ part_number (drop start xs) _ _ (drop_more xs start 0 h) l d ∙ (λ i. numbered (numeral (taken_run Digit xs start e to i)) (drop start xs) (past_run Digit xs start e to i))
+    pub at_number : (e : ℕ) → false ≡ is_of Letter b → true ≡ is_of Digit b → e ≡ start + run Digit (drop start xs) → part (skip (drop at xs)) ≡ numbered (numeral (take (e - start) (drop start xs))) (drop start xs) (drop e xs)
+    at_number e l d to =
+        ap part skipped ∙ part_number (drop start xs) _ _ rest l d ∙ (λ i. numbered (numeral (taken_run Digit xs start e to i)) (drop start xs) (past_run Digit xs start e to i))
 
-  pub at_mark : start < length xs → false ≡ is_of Letter (get_or xs start 0) → false ≡ is_of Digit (get_or xs start 0) → part (skip (drop at xs)) ≡ cond (is_mark (get_or xs start 0)) (got (mark (get_or xs start 0)) (drop (start + 1) xs)) (no Malformed (drop start xs))
-  at_mark h l d = ap part skipped ∙ part_mark (drop start xs) _ _ (drop_more xs start 0 h) l d
-
-pub number_some : (o : Option ℕ) (n : ℕ) (from rest : List ℕ) → Some n ≡ o → numbered o from rest ≡ got (number n) rest
-number_some o n from rest e = rw (← e)
-
-pub number_none : (o : Option ℕ) (from rest : List ℕ) → None ≡ o → numbered o from rest ≡ no Malformed from
-number_none o from rest e = rw (← e)
+pub numbered_as : (o p : Option ℕ) (bs more : List ℕ) → p ≡ o → numbered o bs more ≡ numbered p bs more
+numbered_as o p bs more e = ap (λ q. numbered q bs more) (sym e)

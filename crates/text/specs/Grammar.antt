@@ -12,6 +12,8 @@ use Rattle.text.specs.declared.draft.State.{State}
 use Rattle.text.specs.declared.draft.State.TheVariants.{Stay, Hold}
 use Rattle.text.specs.declared.fault.TextFault.{TextFault}
 use Rattle.text.specs.declared.fault.TextFault.TheVariants.{TooLong, Unexpected, OutOfRange}
+use Rattle.text.specs.declared.mark.Side.{Side}
+use Rattle.text.specs.declared.mark.Side.TheVariants.{Low, High as HighSide}
 use Rattle.text.specs.Draft.{no_row}
 use Rattle.text.specs.Limits.{max_inputs, max_outputs, max_states, max_rows, max_days, max_bytes}
 use Rattle.text.specs.Token.{Part, word, number, mark, end, Got, got, no, Reader, skip, part}
@@ -73,6 +75,11 @@ opens c = cond (c == 91) (Some Shut) (cond (c == 40) (Some Open) None)
 abbrev pub closes : ℕ → Option End
 closes c = cond (c == 93) (Some Shut) (cond (c == 41) (Some Open) None)
 
+-- the end that a mark gives a guard on a side
+abbrev pub ends : Side → ℕ → Option End
+ends Low = opens
+ends HighSide = closes
+
 abbrev pub only : ℕ → ℕ → Option Unit
 only d c = cond (c == d) (Some tt) None
 
@@ -117,6 +124,12 @@ closed (Some n) = do
 closed None = do
   close ← due (as_mark (only 41))
   done Inf
+
+-- the high end of a guard, up to the mark that closes it
+abbrev pub high_end : Reader High
+high_end = do
+  bound ← due as_high
+  closed bound
 
 abbrev pub guarded : Reader Guard
 guarded = do

@@ -12,6 +12,8 @@ use Rattle.text.specs.declared.draft.State.{State}
 use Rattle.text.specs.declared.draft.State.TheVariants.{Stay, Hold}
 use Rattle.text.specs.declared.fault.TextFault.{TextFault}
 use Rattle.text.specs.declared.fault.TextFault.TheVariants.{BufferTooShort}
+use Rattle.text.specs.declared.mark.Side.{Side}
+use Rattle.text.specs.declared.mark.Side.TheVariants.{Low, High as HighSide}
 
 abbrev pub head_line : List ℕ → ℕ → List ℕ
 head_line w n = w ++ (32 ∷ (decimal n ++ (10 ∷ [])))
@@ -27,6 +29,11 @@ opener Open = 40
 abbrev pub closer : End → ℕ
 closer Shut = 93
 closer Open = 41
+
+-- the mark of an end on a side
+abbrev pub mark_of : Side → End → ℕ
+mark_of Low = opener
+mark_of HighSide = closer
 
 abbrev pub high_text : High → List ℕ
 high_text (At n e) = decimal n ++ (closer e ∷ [])

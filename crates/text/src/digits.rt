@@ -1,38 +1,42 @@
 //! Numbers in decimal.
 
-ghost use Rattle.std.specs.Prelude.{◌≡◌, ◌≤◌, length, drop, decimal};
+ghost use Rattle.std.specs.Prelude.{◌≡◌, ◌≤◌, length, decimal};
+
+use arrayvec::ArrayString;
+use itoa::Buffer;
 
 // The most digits of a number of 64 bits.
 const MOST: usize = 20;
 
 /// The digits that write a number, with no needless 0 before it.
-#[derive(Clone, Copy)]
+#[derive(Clone, Copy, Debug, PartialEq, Eq)]
 pub struct Digits {
-    bytes: [u8; MOST],
-    from: usize,
-    ghost within: { from ≤ 20 },
+    text: ArrayString<MOST>,
 }
 
 impl Digits {
+    /// The digits of a number.
     pub fn of(n: u64) -> Digits
-        ensures { drop result.from result.bytes ≡ decimal n }
+        ensures { result.text.bytes ≡ decimal n }
     {
-        let mut bytes = [0; MOST];
-        let mut from = MOST;
-        let mut rest = n;
-        while rest >= 10 {
-            from -= 1;
-            bytes[from] = b'0' + (rest % 10) as u8;
-            rest /= 10;
-        }
-        from -= 1;
-        bytes[from] = b'0' + rest as u8;
-        Digits { bytes, from }
+        let mut text = ArrayString::new();
+        text.push_str(Buffer::new().format(n));
+        Digits { text }
     }
 
-    pub fn as_bytes(&self) -> &[u8]
-        ensures { result.now ≡ drop self.now.from self.now.bytes }
+    /// The digits as a text.
+    pub fn as_str(&self) -> &str
+        ensures value { result.now ≡ self.now.text.bytes }
+        ensures short { length result.now ≤ 20 }
     {
-        &self.bytes[self.from..]
+        self.text.as_str()
+    }
+
+    /// The digits as bytes.
+    pub fn as_bytes(&self) -> &[u8]
+        ensures value { result.now ≡ self.now.text.bytes }
+        ensures short { length result.now ≤ 20 }
+    {
+        self.as_str().as_bytes()
     }
 }

@@ -6,7 +6,7 @@ ghost use Rattle.text.specs.Fault.{number_of, layer_of, place_of};
 use crate::limits::MAX_BYTES;
 
 /// A refusal of this layer, with the byte at which it comes where it has a place.
-#[derive(Clone, Copy)]
+#[derive(Clone, Copy, Debug, PartialEq, Eq)]
 pub enum TextFault {
     /// The text has too many bytes.
     TooLong,
@@ -47,10 +47,10 @@ impl TextFault {
     {
         match self {
             TextFault::TooLong => Some(MAX_BYTES),
-            TextFault::Malformed { at } => Some(at),
-            TextFault::Unexpected { at } => Some(at),
-            TextFault::OutOfRange { at } => Some(at),
-            TextFault::Trailing { at } => Some(at),
+            TextFault::Malformed { at }
+            | TextFault::Unexpected { at }
+            | TextFault::OutOfRange { at }
+            | TextFault::Trailing { at } => Some(at),
             TextFault::BufferTooShort => None,
         }
     }

@@ -1,34 +1,33 @@
 //! From bytes to tokens with their places.
 
-ghost use Rattle.std.specs.Prelude.{◌≡◌, ◌+◌, ◌-◌, ◌≤◌, cond, length, drop, Some, None, OnErr};
+ghost use Rattle.std.specs.Prelude.{◌≡◌, ◌+◌, ◌-◌, ◌≤◌, length, drop, OnErr};
+ghost use Rattle.std.specs.List.{prefix_len};
 ghost use Rattle.text.specs.Token.{is_of, is_mark, run, numeral as numeral_of, first_part};
 ghost use Rattle.text.specs.Lexer.{Lexed};
 
 use crate::fault::TextFault;
 use crate::token::{Kind, Token};
 
-fn is_of(kind: Kind, byte: u8) -> bool
-    ensures { result ≡ is_of kind byte }
+// How many bytes from the first on are of the kind.
+fn run(bytes: &[u8], kind: Kind) -> usize
+    ensures is { result ≡ prefix_len (is_of kind) bytes.now }
+    ensures within { result ≤ length bytes.now }
 {
-    match kind {
-        Kind::Blank => byte == b' ' || byte == b'\n',
-        Kind::Letter => byte >= b'a' && byte <= b'z',
-        Kind::Digit => byte >= b'0' && byte <= b'9',
-    }
+    bytes.iter().take_while(|byte| kind.has(**byte)).count()
 }
 
-// The end of the longest run of `kind` that begins at `from`.
+// The end of the longest run of the kind that begins at `from`.
 fn run_end(text: &[u8], from: usize, kind: Kind) -> usize
     ensures is { result ≡ from + run kind (drop from text.now) }
     ensures within { from ≤ length text.now → result ≤ length text.now }
 {
-    let mut at = from;
-    while at < text.len() && is_of(kind, text[at]) {
-        at += 1;
+    match text.get(from..) {
+        Some(rest) => from + run(rest, kind),
+        None => from,
     }
-    at
 }
 
+// The number that a digit stands for.
 fn digit(byte: u8) -> u16
     ensures is { result ≡ byte - 48 }
     ensures small { result ≤ 207 }
@@ -36,7 +35,8 @@ fn digit(byte: u8) -> u16
     u16::from(byte.saturating_sub(b'0'))
 }
 
-// The number that these digits write; none where they are too many or begin with a needless 0.
+// The number that these digits write; none where they are too many or begin with a needless 0. The library's parsing takes any
+// count of digits and a needless 0, so it would be no plainer.
 fn numeral(digits: &[u8]) -> Option<u16>
     ensures { result ≡ numeral_of digits.now }
 {
@@ -49,10 +49,11 @@ fn numeral(digits: &[u8]) -> Option<u16>
     }
 }
 
+// Whether the byte is a mark.
 fn is_mark(byte: u8) -> bool
     ensures { result ≡ is_mark byte }
 {
-    byte == b'[' || byte == b'(' || byte == b']' || byte == b')' || byte == b','
+    matches!(byte, b'[' | b'(' | b']' | b')' | b',')
 }
 
 /// Takes a text apart, one token after another.
@@ -63,6 +64,7 @@ pub struct Lexer<'a> {
 }
 
 impl<'a> Lexer<'a> {
+    /// A lexer of the text that begins at a place.
     pub fn new(text: &'a [u8], at: usize) -> Self
         ensures { (result.text.now ≡ text.now) × (result.at ≡ at) }
     {
@@ -84,25 +86,22 @@ impl<'a> Lexer<'a> {
     {
         let text = self.text;
         let start = run_end(text, self.at, Kind::Blank);
-        if start >= text.len() {
+        let Some(&first) = text.get(start) else {
             self.at = text.len();
             return Ok((Token::End, text.len()));
-        }
-        let first = text[start];
-        if is_of(Kind::Letter, first) {
+        };
+        if Kind::Letter.has(first) {
             let end = run_end(text, start, Kind::Letter);
             self.at = end;
             return Ok((Token::Word(&text[start..end]), start));
         }
-        if is_of(Kind::Digit, first) {
+        if Kind::Digit.has(first) {
             let end = run_end(text, start, Kind::Digit);
-            return match numeral(&text[start..end]) {
-                Some(n) => {
-                    self.at = end;
-                    Ok((Token::Number(n), start))
-                }
-                None => Err(TextFault::Malformed { at: start }),
+            let Some(n) = numeral(&text[start..end]) else {
+                return Err(TextFault::Malformed { at: start });
             };
+            self.at = end;
+            return Ok((Token::Number(n), start));
         }
         if is_mark(first) {
             self.at = start + 1;
@@ -117,9 +116,5 @@ pub fn first_part(text: &[u8], from: usize) -> Option<usize>
     ensures { result ≡ first_part text.now from }
 {
     let start = run_end(text, from, Kind::Blank);
-    if start < text.len() {
-        Some(start)
-    } else {
-        None
-    }
+    (start < text.len()).then_some(start)
 }

@@ -7,6 +7,7 @@ pub mod draft;
 pub mod fault;
 pub mod lexer;
 pub mod limits;
+mod mark;
 pub mod put;
 pub mod read;
 pub mod token;

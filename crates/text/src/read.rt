@@ -1,22 +1,24 @@
 //! The section readers: from tokens to the draft of a book.
 
-ghost use Rattle.std.specs.Prelude.{◌≡◌, ◌<◌, ◌≤◌, [], length, take, IfOk, Option};
-ghost use Rattle.text.specs.declared.draft.State.TheVariants.{Stay};
-ghost use Rattle.text.specs.Draft.{StateRanged, RowRanged, GuardRanged, Ranged, high_day, no_row, day_of};
-ghost use Rattle.text.specs.Grammar.{due, as_number, is_word, as_word, as_holds, as_high, as_mark, only, opens, closes, closed, state, guarded, row, section, many, book, reading};
-ghost use Rattle.text.specs.Lexer.{part_of, whole};
-ghost use Rattle.text.specs.Limits.{max_days, max_states, max_rows};
+ghost use Rattle.std.specs.Prelude.{◌≡◌, ◌<◌, ◌≤◌, [], length, take, IfOk};
+ghost use Rattle.text.specs.Draft.{StateRanged, RowRanged, GuardRanged, Ranged, high_day};
+ghost use Rattle.text.specs.Grammar.{due, as_number, as_word, as_mark, only, ends, high_end, state, guarded, row, section, many, book, reading};
+ghost use Rattle.text.specs.Lexer.{whole};
+ghost use Rattle.text.specs.Limits.{max_days};
 ghost use Rattle.text.specs.Parts.{ReadsExactly};
 ghost use Rattle.text.specs.Refusal.{RefusesExactly};
 ghost use Rattle.text.specs.Read.{Reads, shown, Filled};
+ghost use Rattle.text.specs.Token.{Reader};
 
 use crate::draft::*;
 use crate::fault::TextFault;
 use crate::lexer::Lexer;
 use crate::limits::*;
+use crate::mark::{Side, end_of};
 use crate::token::Token;
 
-// A number from `low` on and below `limit`.
+// A number from `low` on and below `limit`. Each reader of one part asks the lexer itself: one reader over a closure would have
+// to say of the closure what these contracts say by the definition that they name.
 fn read_number(lexer: &mut Lexer, low: u16, limit: u16) -> Result<u16, TextFault>
     ensures reads { Reads (due (as_number low limit)) lexer.old lexer.new result }
     ensures inside { IfOk result (λ n. (low ≤ n) × (n < limit)) }
@@ -29,107 +31,47 @@ fn read_number(lexer: &mut Lexer, low: u16, limit: u16) -> Result<u16, TextFault
     }
 }
 
-fn is_word(token: Token, word: &[u8]) -> bool
-    ensures { result ≡ is_word word.now (part_of token.entry) }
+// A number of at most a byte, in the same way.
+fn read_small(lexer: &mut Lexer, low: u8, limit: u8) -> Result<u8, TextFault>
+    ensures reads { Reads (due (as_number low limit)) lexer.old lexer.new result }
+    ensures inside { IfOk result (λ n. (low ≤ n) × (n < limit)) }
 {
-    match token {
-        Token::Word(w) => w == word,
-        _ => false,
-    }
+    Ok(read_number(lexer, u16::from(low), u16::from(limit))? as u8)
 }
 
+// This word. It and the mark below have a reader each, since the grammar takes a word and a mark by two definitions.
 fn read_word(lexer: &mut Lexer, word: &[u8]) -> Result<(), TextFault>
     ensures { Reads (due (as_word word.now)) lexer.old lexer.new result }
 {
     let (token, at) = lexer.next()?;
-    if is_word(token, word) {
+    if token == Token::Word(word) {
         Ok(())
     } else {
         Err(TextFault::Unexpected { at })
     }
 }
 
-// Whether the guard that this mark opens has its low end.
-fn opening(mark: char) -> Option<End>
-    ensures { result ≡ opens mark }
-{
-    match mark {
-        '[' => Some(End::Shut),
-        '(' => Some(End::Open),
-        _ => None,
-    }
-}
-
-// Whether the guard that this mark closes has its high end.
-fn closing(mark: char) -> Option<End>
-    ensures { result ≡ closes mark }
-{
-    match mark {
-        ']' => Some(End::Shut),
-        ')' => Some(End::Open),
-        _ => None,
-    }
-}
-
-fn read_opening(lexer: &mut Lexer) -> Result<End, TextFault>
-    ensures { Reads (due (as_mark opens)) lexer.old lexer.new result }
+// A mark on this side of a guard, and whether the guard has that end.
+fn read_end(lexer: &mut Lexer, side: Side) -> Result<End, TextFault>
+    ensures { Reads (due (as_mark (ends side))) lexer.old lexer.new result }
 {
     let (token, at) = lexer.next()?;
-    match token {
-        Token::Mark(mark) => match opening(mark as char) {
-            Some(end) => Ok(end),
-            None => Err(TextFault::Unexpected { at }),
-        },
-        _ => Err(TextFault::Unexpected { at }),
+    if let Token::Mark(mark) = token
+        && let Some(end) = end_of(side, mark as char)
+    {
+        Ok(end)
+    } else {
+        Err(TextFault::Unexpected { at })
     }
 }
 
-fn read_closing(lexer: &mut Lexer) -> Result<End, TextFault>
-    ensures { Reads (due (as_mark closes)) lexer.old lexer.new result }
-{
-    let (token, at) = lexer.next()?;
-    match token {
-        Token::Mark(mark) => match closing(mark as char) {
-            Some(end) => Ok(end),
-            None => Err(TextFault::Unexpected { at }),
-        },
-        _ => Err(TextFault::Unexpected { at }),
-    }
-}
-
+// This mark.
 fn read_mark(lexer: &mut Lexer, expected: u8) -> Result<(), TextFault>
     ensures { Reads (due (as_mark (only expected))) lexer.old lexer.new result }
 {
     let (token, at) = lexer.next()?;
-    match token {
-        Token::Mark(mark) if mark == expected => Ok(()),
-        _ => Err(TextFault::Unexpected { at }),
-    }
-}
-
-// The day of a high end, or none for `inf`.
-fn read_high_day(lexer: &mut Lexer) -> Result<Option<u8>, TextFault>
-    ensures reads { Reads (due as_high) lexer.old lexer.new result }
-    ensures inside { IfOk result (λ day. day_of day ≤ max_days) }
-{
-    let (token, at) = lexer.next()?;
-    match token {
-        Token::Number(n) if n <= MAX_DAYS as u16 => Ok(Some(n as u8)),
-        Token::Number(_) => Err(TextFault::OutOfRange { at }),
-        Token::Word(_) if is_word(token, b"inf") => Ok(None),
-        _ => Err(TextFault::Unexpected { at }),
-    }
-}
-
-// Whether the state holds.
-fn read_holds(lexer: &mut Lexer) -> Result<bool, TextFault>
-    ensures { Reads (due as_holds) lexer.old lexer.new result }
-{
-    let (token, at) = lexer.next()?;
-    if is_word(token, b"stay") {
-        Ok(false)
-    } else if is_word(token, b"hold") {
-        Ok(true)
+    if token == Token::Mark(expected) {
+        Ok(())
     } else {
         Err(TextFault::Unexpected { at })
     }
@@ -144,146 +86,141 @@ fn read_section(lexer: &mut Lexer, head: &[u8], limit: u16) -> Result<u16, TextF
     read_number(lexer, 1, limit)
 }
 
-fn read_state(lexer: &mut Lexer, states: u8) -> Result<State, TextFault>
-    requires { 1 ≤ states }
-    ensures reads { Reads (state states) lexer.old lexer.new result }
-    ensures ranged { IfOk result (StateRanged states) }
+// The high end of a guard, up to the mark that closes it.
+fn read_high(lexer: &mut Lexer) -> Result<High, TextFault>
+    ensures reads { Reads high_end lexer.old lexer.new result }
+    ensures inside { IfOk result (λ high. high_day high ≤ max_days) }
 {
-    let holds = read_holds(lexer)?;
-    if holds {
-        let timeout = read_number(lexer, 1, MAX_DAYS as u16 + 1)? as u8;
-        let target = read_number(lexer, 0, states as u16)? as u8;
-        Ok(State::Hold { timeout, target })
-    } else {
-        Ok(State::Stay)
-    }
-}
-
-fn read_high(lexer: &mut Lexer, day: Option<u8>) -> Result<High, TextFault>
-    ensures reads { Reads (closed day) lexer.old lexer.new result }
-    ensures inside { IfOk result (λ h. high_day h ≡ day_of day) }
-{
-    match day {
-        Some(n) => {
-            let end = read_closing(lexer)?;
-            Ok(High::At(n, end))
+    let (token, at) = lexer.next()?;
+    match token {
+        Token::Number(n) if n <= u16::from(MAX_DAYS) => {
+            let end = read_end(lexer, Side::High)?;
+            Ok(High::At(n as u8, end))
         }
-        None => {
+        Token::Number(_) => Err(TextFault::OutOfRange { at }),
+        Token::Word(b"inf") => {
             read_mark(lexer, b')')?;
             Ok(High::Inf)
         }
+        _ => Err(TextFault::Unexpected { at }),
     }
 }
 
+// A guard, from mark to mark.
 fn read_guard(lexer: &mut Lexer) -> Result<Guard, TextFault>
     ensures reads { Reads guarded lexer.old lexer.new result }
     ensures ranged { IfOk result GuardRanged }
 {
-    let end = read_opening(lexer)?;
-    let low = read_number(lexer, 0, MAX_DAYS as u16 + 1)? as u8;
+    let end = read_end(lexer, Side::Low)?;
+    let low = read_small(lexer, 0, MAX_DAYS + 1)?;
     read_mark(lexer, b',')?;
-    let day = read_high_day(lexer)?;
-    let high = read_high(lexer, day)?;
+    let high = read_high(lexer)?;
     Ok(Guard { low, end, high })
 }
 
-// How many inputs, outputs and states there are for a row to name.
+// How many inputs, outputs and states there are for a state or a row to name.
 #[derive(Clone, Copy)]
 struct Counts {
     inputs: u8,
     outputs: u8,
     states: u8,
+    ghost some: { 1 ≤ states },
 }
 
-fn read_row(lexer: &mut Lexer, counts: Counts) -> Result<Row, TextFault>
-    ensures reads { Reads (row counts.inputs counts.outputs counts.states) lexer.old lexer.new result }
-    ensures ranged { IfOk result (RowRanged counts.inputs counts.outputs counts.states) }
-{
-    let state = read_number(lexer, 0, counts.states as u16)? as u8;
-    let input = read_number(lexer, 0, counts.inputs as u16)? as u8;
-    let guard = read_guard(lexer)?;
-    let output = read_number(lexer, 0, counts.outputs as u16)? as u8;
-    let next = read_number(lexer, 0, counts.states as u16)? as u8;
-    Ok(Row {
-        state,
-        input,
-        guard,
-        output,
-        next,
-    })
+// What a section lists, one after another.
+trait Listed: Copy {
+    ghost use Rattle.text.specs.declared.read.Counts.{Counts};
+
+    ghost reader: { Counts → Reader Self };
+
+    ghost Ranged: { Counts → Self → Type 0 };
+
+    fn read(lexer: &mut Lexer, counts: Counts) -> Result<Self, TextFault>
+        ensures reads { Reads (reader counts) lexer.old lexer.new result }
+        ensures ranged { IfOk result (Ranged counts) };
 }
 
-fn read_states(lexer: &mut Lexer, count: u8) -> Result<[State; MAX_STATES], TextFault>
-    requires some { 1 ≤ count }
-    requires few { count ≤ max_states }
-    requires within { lexer.old.at ≤ length (whole lexer.old) }
-    ensures reads { Reads (many (state count) count []) lexer.old lexer.new (shown (take count) result) }
-    ensures filled { IfOk result (Filled max_states Stay (StateRanged count) count) }
-{
-    let mut all = [State::Stay; MAX_STATES];
-    for i in 0..count as usize {
-        let state = read_state(lexer, count)?;
-        all[i] = state;
+impl Listed for State {
+    ghost reader = { λ counts. state counts.states };
+
+    ghost Ranged = { λ counts. StateRanged counts.states };
+
+    fn read(lexer: &mut Lexer, counts: Counts) -> Result<State, TextFault> {
+        let (token, at) = lexer.next()?;
+        match token {
+            Token::Word(b"stay") => Ok(State::Stay),
+            Token::Word(b"hold") => {
+                let timeout = read_small(lexer, 1, MAX_DAYS + 1)?;
+                let target = read_small(lexer, 0, counts.states)?;
+                Ok(State::Hold { timeout, target })
+            }
+            _ => Err(TextFault::Unexpected { at }),
+        }
     }
-    Ok(all)
 }
 
-// What stands at a place past the last row.
-const NO_ROW: Row = Row {
-    state: 0,
-    input: 0,
-    guard: Guard {
-        low: 0,
-        end: End::Shut,
-        high: High::At(0, End::Shut),
-    },
-    output: 0,
-    next: 0,
-};
+impl Listed for Row {
+    ghost reader = { λ counts. row counts.inputs counts.outputs counts.states };
 
-fn read_rows(lexer: &mut Lexer, counts: Counts, count: u16) -> Result<[Row; MAX_ROWS], TextFault>
-    requires few { count ≤ max_rows }
-    requires within { lexer.old.at ≤ length (whole lexer.old) }
-    ensures reads { Reads (many (row counts.inputs counts.outputs counts.states) count []) lexer.old lexer.new (shown (take count) result) }
-    ensures filled { IfOk result (Filled max_rows no_row (RowRanged counts.inputs counts.outputs counts.states) count) }
-{
-    let mut all = [NO_ROW; MAX_ROWS];
-    for i in 0..count as usize {
-        let row = read_row(lexer, counts)?;
-        all[i] = row;
+    ghost Ranged = { λ counts. RowRanged counts.inputs counts.outputs counts.states };
+
+    fn read(lexer: &mut Lexer, counts: Counts) -> Result<Row, TextFault> {
+        let state = read_small(lexer, 0, counts.states)?;
+        let input = read_small(lexer, 0, counts.inputs)?;
+        let guard = read_guard(lexer)?;
+        let output = read_small(lexer, 0, counts.outputs)?;
+        let next = read_small(lexer, 0, counts.states)?;
+        Ok(Row {
+            state,
+            input,
+            guard,
+            output,
+            next,
+        })
     }
-    Ok(all)
 }
 
+// So many of what a section lists; `past` stands at the places past them.
+fn read_many<T: Listed, const N: usize>(
+    lexer: &mut Lexer,
+    counts: Counts,
+    count: u16,
+    past: T,
+) -> Result<UpTo<T, N>, TextFault>
+    requires few { count ≤ N }
+    requires within { lexer.old.at ≤ length (whole lexer.old) }
+    ensures reads { Reads (many (T.reader counts) count []) lexer.old lexer.new (shown (λ read. take count read.all) result) }
+    ensures counted { IfOk result (λ read. read.count ≡ count) }
+    ensures filled { IfOk result (λ read. Filled N past (T.Ranged counts) count read.all) }
+{
+    let mut all = [past; N];
+    for place in &mut all[..usize::from(count)] {
+        *place = T::read(lexer, counts)?;
+    }
+    Ok(UpTo { count, all })
+}
+
+// All sections of a book. The two small limits are cast: through `from` the refusals of the later sections stay open in the proof.
 fn read_book(lexer: &mut Lexer) -> Result<Draft, TextFault>
     ensures reads { Reads book lexer.old lexer.new result }
     ensures ranged { IfOk result Ranged }
 {
     let inputs = read_section(lexer, b"inputs", MAX_INPUTS as u16 + 1)? as u8;
     let outputs = read_section(lexer, b"outputs", MAX_OUTPUTS as u16 + 1)? as u8;
-    let states = read_section(lexer, b"states", MAX_STATES as u16 + 1)? as u8;
-    let kinds = read_states(lexer, states)?;
-    let rows = read_section(lexer, b"rows", MAX_ROWS as u16 + 1)?;
-    let lines = read_rows(
-        lexer,
-        Counts {
-            inputs,
-            outputs,
-            states,
-        },
-        rows,
-    )?;
+    let count = read_section(lexer, b"states", MAX_STATES as u16 + 1)?;
+    let counts = Counts {
+        inputs,
+        outputs,
+        states: count as u8,
+    };
+    let states = read_many(lexer, counts, count, State::Stay)?;
+    let count = read_section(lexer, b"rows", MAX_ROWS as u16 + 1)?;
+    let rows = read_many(lexer, counts, count, NO_ROW)?;
     Ok(Draft {
         inputs,
         outputs,
-        states: States {
-            count: states,
-            all: kinds,
-        },
-        rows: Rows {
-            count: rows,
-            all: lines,
-        },
+        states,
+        rows,
     })
 }
 

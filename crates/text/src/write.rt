@@ -1,152 +1,151 @@
 //! The canonical text of a draft: a line for each head of a section, each state and each row.
 
-ghost use Rattle.std.specs.Prelude.{◌≡◌, ◌+◌, ◌*◌, ◌≤◌, [], ◌∷◌, ◌++◌, length, decimal};
+ghost use Rattle.std.specs.Prelude.{◌≡◌, ℕ, ◌+◌, ◌*◌, ◌<◌, ◌≤◌, List, [], ◌∷◌, ◌++◌, length, decimal};
 ghost use Rattle.std.specs.List.{flat_map};
 ghost use Rattle.text.specs.Draft.{Ranged};
 ghost use Rattle.text.specs.Limits.{max_bytes};
 ghost use Rattle.text.specs.Parts.{ReadsBack};
-ghost use Rattle.text.specs.Put.{Puts};
-ghost use Rattle.text.specs.Write.{head_line, state_line, opener, closer, high_text, guard_text, row_line, canonical, written, filled};
+ghost use Rattle.text.specs.Write.{head_line, state_line, high_text, guard_text, row_line, canonical, written, filled};
 
 use crate::digits::Digits;
 use crate::draft::*;
 use crate::fault::TextFault;
 use crate::limits::*;
-use crate::put::put;
+use crate::mark::{Side, mark_of};
+use arrayvec::ArrayString;
 
-// Bytes for which there is room.
-fn put_bytes(out: &mut [u8], at: usize, bytes: &[u8]) -> usize
-    requires { at + length bytes.now ≤ length out.old }
-    ensures { Puts out.old at out.new result bytes.now }
+// A text of a book while it is written.
+type Text = ArrayString<MAX_BYTES>;
+
+// The number, and the mark that stands behind it.
+fn put_number(text: &mut Text, n: u16, after: u8)
+    requires ascii { after < 128 }
+    requires room { length text.old.bytes + 6 ≤ max_bytes }
+    ensures puts { text.new.bytes ≡ text.old.bytes ++ (decimal n ++ (after ∷ [])) }
+    ensures short { length (decimal n) ≤ 5 }
 {
-    put(out, at, bytes)
+    text.push_str(Digits::of(u64::from(n)).as_str());
+    text.push(after as char);
 }
 
-// The number, and the byte that stands behind it.
-fn put_number(out: &mut [u8], at: usize, n: u16, after: u8) -> usize
-    requires { at + 6 ≤ length out.old }
-    ensures puts { Puts out.old at out.new result (decimal n ++ (after ∷ [])) }
-    ensures short { result ≤ at + 6 }
+// The head of a section, with how many there are.
+fn put_head(text: &mut Text, head: &str, n: u16)
+    requires { length text.old.bytes + length head.now + 7 ≤ max_bytes }
+    ensures puts { text.new.bytes ≡ text.old.bytes ++ head_line head.now n }
+    ensures short { length (head_line head.now n) ≤ length head.now + 7 }
 {
-    let digits = Digits::of(n as u64);
-    let at = put_bytes(out, at, digits.as_bytes());
-    put_bytes(out, at, &[after])
+    text.push_str(head);
+    text.push(' ');
+    put_number(text, n, b'\n');
 }
 
-fn opening(end: End) -> u8
-    ensures { result ≡ opener end }
-{
-    match end {
-        End::Shut => b'[',
-        End::Open => b'(',
-    }
+// What has a spelling of its own, of at most so many bytes. A `Display` would not do: where its `fmt` answers `Err`, its clause
+// says nothing of the bytes that were written.
+trait Put: Copy {
+    ghost spelling: { Self → List ℕ };
+
+    ghost longest: { ℕ };
+
+    // Puts the spelling behind the text.
+    fn put(self, text: &mut Text)
+        requires { length text.old.bytes + longest ≤ max_bytes }
+        ensures puts { text.new.bytes ≡ text.old.bytes ++ spelling self }
+        ensures short { length (spelling self) ≤ longest };
 }
 
-fn closing(end: End) -> u8
-    ensures { result ≡ closer end }
-{
-    match end {
-        End::Shut => b']',
-        End::Open => b')',
-    }
-}
+impl Put for High {
+    ghost spelling = { high_text };
 
-fn put_head(out: &mut [u8], at: usize, head: &[u8], n: u16) -> usize
-    requires { at + length head.now + 7 ≤ length out.old }
-    ensures puts { Puts out.old at out.new result (head_line head.now n) }
-    ensures short { result ≤ at + length head.now + 7 }
-{
-    let at = put_bytes(out, at, head);
-    let at = put_bytes(out, at, b" ");
-    put_number(out, at, n, b'\n')
-}
+    ghost longest = { 6 };
 
-fn put_state(out: &mut [u8], at: usize, state: State) -> usize
-    requires { at + 17 ≤ length out.old }
-    ensures puts { Puts out.old at out.new result (state_line state) }
-    ensures short { result ≤ at + 17 }
-{
-    match state {
-        State::Stay => put_bytes(out, at, b"stay\n"),
-        State::Hold { timeout, target } => {
-            let at = put_bytes(out, at, b"hold ");
-            let at = put_number(out, at, timeout as u16, b' ');
-            put_number(out, at, target as u16, b'\n')
+    fn put(self, text: &mut Text) {
+        match self {
+            High::At(n, end) => put_number(text, u16::from(n), mark_of(Side::High, end)),
+            High::Inf => text.push_str("inf)"),
         }
     }
 }
 
-fn put_high(out: &mut [u8], at: usize, high: High) -> usize
-    requires { at + 6 ≤ length out.old }
-    ensures puts { Puts out.old at out.new result (high_text high) }
-    ensures short { result ≤ at + 6 }
-{
-    match high {
-        High::At(n, end) => put_number(out, at, n as u16, closing(end)),
-        High::Inf => put_bytes(out, at, b"inf)"),
+impl Put for Guard {
+    ghost spelling = { guard_text };
+
+    ghost longest = { 13 };
+
+    fn put(self, text: &mut Text) {
+        text.push(mark_of(Side::Low, self.end) as char);
+        put_number(text, u16::from(self.low), b',');
+        self.high.put(text);
     }
 }
 
-fn put_guard(out: &mut [u8], at: usize, guard: Guard) -> usize
-    requires { at + 13 ≤ length out.old }
-    ensures puts { Puts out.old at out.new result (guard_text guard) }
-    ensures short { result ≤ at + 13 }
-{
-    let at = put_bytes(out, at, &[opening(guard.end)]);
-    let at = put_number(out, at, guard.low as u16, b',');
-    put_high(out, at, guard.high)
-}
+impl Put for State {
+    ghost spelling = { state_line };
 
-fn put_row(out: &mut [u8], at: usize, row: Row) -> usize
-    requires { at + 38 ≤ length out.old }
-    ensures puts { Puts out.old at out.new result (row_line row) }
-    ensures short { result ≤ at + 38 }
-{
-    let at = put_number(out, at, row.state as u16, b' ');
-    let at = put_number(out, at, row.input as u16, b' ');
-    let at = put_guard(out, at, row.guard);
-    let at = put_bytes(out, at, b" ");
-    let at = put_number(out, at, row.output as u16, b' ');
-    put_number(out, at, row.next as u16, b'\n')
-}
+    ghost longest = { 17 };
 
-fn put_states(out: &mut [u8], from: usize, states: &[State]) -> usize
-    requires { from + 17 * length states.now ≤ length out.old }
-    ensures puts { Puts out.old from out.new result (flat_map state_line states.now) }
-    ensures short { result ≤ from + 17 * length states.now }
-{
-    let mut at = from;
-    for state in states {
-        at = put_state(out, at, *state);
+    fn put(self, text: &mut Text) {
+        match self {
+            State::Stay => text.push_str("stay\n"),
+            State::Hold { timeout, target } => {
+                text.push_str("hold ");
+                put_number(text, u16::from(timeout), b' ');
+                put_number(text, u16::from(target), b'\n');
+            }
+        }
     }
-    at
 }
 
-fn put_rows(out: &mut [u8], from: usize, rows: &[Row]) -> usize
-    requires { from + 38 * length rows.now ≤ length out.old }
-    ensures puts { Puts out.old from out.new result (flat_map row_line rows.now) }
-    ensures short { result ≤ from + 38 * length rows.now }
-{
-    let mut at = from;
-    for row in rows {
-        at = put_row(out, at, *row);
+impl Put for Row {
+    ghost spelling = { row_line };
+
+    ghost longest = { 38 };
+
+    fn put(self, text: &mut Text) {
+        put_number(text, u16::from(self.state), b' ');
+        put_number(text, u16::from(self.input), b' ');
+        self.guard.put(text);
+        text.push(' ');
+        put_number(text, u16::from(self.output), b' ');
+        put_number(text, u16::from(self.next), b'\n');
     }
-    at
 }
 
-fn put_draft(out: &mut [u8], draft: &Draft) -> usize
-    requires { max_bytes ≤ length out.old }
-    ensures puts { Puts out.old 0 out.new result (canonical draft.now) }
-    ensures short { result ≤ max_bytes }
+// One after another.
+fn put_all<T: Put>(text: &mut Text, all: &[T])
+    requires { length text.old.bytes + T.longest * length all.now ≤ max_bytes }
+    ensures puts { text.new.bytes ≡ text.old.bytes ++ flat_map T.spelling all.now }
+    ensures short { length (flat_map T.spelling all.now) ≤ T.longest * length all.now }
 {
-    let at = put_head(out, 0, b"inputs", draft.inputs as u16);
-    let at = put_head(out, at, b"outputs", draft.outputs as u16);
-    let at = put_head(out, at, b"states", draft.states.count as u16);
-    let states = (draft.states.count as usize).min(MAX_STATES);
-    let at = put_states(out, at, &draft.states.all[0..states]);
-    let at = put_head(out, at, b"rows", draft.rows.count);
-    let rows = (draft.rows.count as usize).min(MAX_ROWS);
-    put_rows(out, at, &draft.rows.all[0..rows])
+    for one in all {
+        one.put(text);
+    }
+}
+
+// The whole canonical text, for which there is always room.
+#[tactic(auto, unfolding(crate::specs::Write::canonical))]
+fn canonical_text(draft: &Draft) -> Text
+    ensures { result.bytes ≡ canonical draft.now }
+{
+    let mut text = ArrayString::new();
+    put_head(&mut text, "inputs", u16::from(draft.inputs));
+    put_head(&mut text, "outputs", u16::from(draft.outputs));
+    put_head(&mut text, "states", draft.states.count);
+    put_all(&mut text, draft.states.as_slice());
+    put_head(&mut text, "rows", draft.rows.count);
+    put_all(&mut text, draft.rows.as_slice());
+    text
+}
+
+// Puts the bytes at the buffer's start and answers how many there are; a buffer that is too short stays.
+fn fill(buffer: &mut [u8], bytes: &[u8]) -> Result<usize, TextFault>
+    ensures answers { result ≡ written bytes.now buffer.old }
+    ensures fills { buffer.new ≡ filled bytes.now buffer.old }
+{
+    if bytes.len() > buffer.len() {
+        return Err(TextFault::BufferTooShort);
+    }
+    buffer[..bytes.len()].copy_from_slice(bytes);
+    Ok(bytes.len())
 }
 
 /// Writes the canonical text from the buffer's start and answers how many places it filled; a buffer that
@@ -157,11 +156,6 @@ pub fn write_draft(draft: &Draft, buffer: &mut [u8]) -> Result<usize, TextFault>
     ensures short { length (canonical draft.now) ≤ max_bytes }
     ensures back { Ranged draft.now → ReadsBack draft.now }
 {
-    let mut scratch = [0; MAX_BYTES];
-    let end = put_draft(&mut scratch, draft);
-    if end > buffer.len() {
-        return Err(TextFault::BufferTooShort);
-    }
-    buffer[0..end].copy_from_slice(&scratch[0..end]);
-    Ok(end)
+    let text = canonical_text(draft);
+    fill(buffer, text.as_str().as_bytes())
 }

@@ -1,17 +1,18 @@
-use Rattle.std.proofs.Common.{◌+◌, ap, arith}
-use Rattle.std.proofs.lemmas.List.{take_all}
-use Rattle.std.specs.List.{flat_map}
-use Rattle.text.proofs.Puts.{puts_line, puts_as}
+use Rattle.std.proofs.Common.{length, ap, arith}
+use Rattle.std.proofs.lemmas.List.Folds.{length-flat_map-take}
+use Rattle.table.specs.declared.word.Entry.{Entry}
 use Rattle.compare.specs.Report.{entry_line}
-use Rattle.compare.proofs.Reports.{no_entry, lines_more, lines_front}
+use Rattle.compare.proofs.Reports.{puts_line, puts_as}
 use Rattle.compare.proofs.report.put_lines.Goals as goal
+
+-- what stands past the last entry
+abbrev no_entry : Entry
+no_entry = record { wait = 0; input = 0 }
 
 pub put_line-at-requires : goal.put_line-at-requires
 put_line-at-requires c =
-    omega (arith, c.loop-entry.invariant.long, lines_more entry_line c.args.entries.now c.loop-entry.entry-index no_entry c.loop-entry-test.true, lines_front entry_line c.args.entries.now (c.loop-entry.entry-index + 1), c.requires, c.loop-entry.auto.out)
+    let room = length-flat_map-take entry_line c.args.entries.now c.loop-entry.entry-index no_entry c.loop-entry-test.true in
+    omega (arith, room, ap length c.line_of.ensures, c.loop-entry.invariant.long, c.requires)
 
 pub loop-entry-preserved : goal.loop-entry-preserved
-loop-entry-preserved c = puts_line entry_line _ _ _ c.loop-entry-test.true c.loop-entry.invariant c.put_line-at.ensures
-
-pub returns : goal.returns
-returns c = puts_as (ap (flat_map entry_line) (take_all _ _ c.loop-entry-test.false)) c.loop-entry.invariant
+loop-entry-preserved c = puts_line entry_line _ _ no_entry c.loop-entry-test.true c.loop-entry.invariant (puts_as c.line_of.ensures c.put_line-at.ensures)

@@ -1,18 +1,11 @@
-use Rattle.std.proofs.Common.{◌≡◌, Ok, Err, sym, ap, ◌∙◌}
+use Rattle.std.proofs.Common.{◌≡◌, Ok, Err, sym, ap, ◌∙◌, rules}
 use Rattle.std.proofs.lemmas.Result.{err_from_is_err_and}
-use Rattle.std.proofs.lemmas.Bool.{cond-true, cond-false, le-ltb, lt-ltb}
-use Rattle.text.specs.declared.fault.TextFault.TheVariants.{TooLong}
+use Rattle.std.proofs.lemmas.Bool.{cond-false, le-ltb}
 use Rattle.text.specs.Grammar.{reading}
 use Rattle.text.proofs.Exactly.{answers_exactly}
-use Rattle.text.proofs.Filling.{err_made}
 use Rattle.text.proofs.Refusals.{answers_refused}
 use Rattle.text.proofs.Places.{read_ok, read_err}
 use Rattle.text.proofs.read.read_draft.Goals as goal
-
-pub returns-then-text-gt-MAX_BYTES : goal.returns-then-text-gt-MAX_BYTES
-returns-then-text-gt-MAX_BYTES c =
-    let is : Err TooLong ≡ reading c.args.text.now c.args.from = sym (cond-true _ _ _ (lt-ltb _ _ c.if-text-gt-MAX_BYTES.true)) in
-    record { reads = is; ranged = tt; exactly = answers_exactly _ _ _ is; refused = answers_refused _ _ _ is }
 
 pub returns-in_err-draft : goal.returns-in_err-draft
 returns-in_err-draft c =
@@ -21,7 +14,7 @@ returns-in_err-draft c =
     p.1 ∙ ap Err p.2
     ∙ read_err _ _ _ _ c.new-lexer.ensures.0 c.new-lexer.ensures.1 _ c.in_err-draft.ensures.reads
     ∙ sym (cond-false _ _ _ (le-ltb _ _ c.if-text-gt-MAX_BYTES.false)) in
-    record { reads = is; ranged = err_made _ _ _ c.from_residual.ensures.1; exactly = answers_exactly _ _ _ is; refused = answers_refused _ _ _ is }
+    record { reads = is; ranged = search rules; exactly = answers_exactly _ _ _ is; refused = answers_refused _ _ _ is }
 
 pub returns : goal.returns
 returns c =

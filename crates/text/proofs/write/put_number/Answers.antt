@@ -1,16 +1,20 @@
-use Rattle.std.proofs.Common.{◌≡◌, decimal, ◌∙◌, arith}
-use Rattle.text.proofs.Puts.{puts_then, puts_as, few_digits}
+use Rattle.std.proofs.Common.{◌≡◌, ℕ, ◌^◌, ◌<◌, ◌≤◌, length, decimal, ap, ◌∙◌, arith}
+use Rattle.std.proofs.lemmas.Fmt.{length-decimal-le}
+use Rattle.std.proofs.lemmas.Str.{encode_ascii}
 use Rattle.text.proofs.write.put_number.Goals as goal
 
-pub put_bytes-at-requires : goal.put_bytes-at-requires
-put_bytes-at-requires c = let few = few_digits c.args.n _ (c.as_bytes.ensures ∙ c.of-digits.ensures) (omega arith) in omega arith
+few_digits : (n : ℕ) → n < 2 ^ 16 → length (decimal n) ≤ 5
+few_digits n h = length-decimal-le 5 n (omega arith) (omega arith) (omega arith)
 
-pub put_bytes-requires : goal.put_bytes-requires
-put_bytes-requires c =
-    let few = few_digits c.args.n _ (c.as_bytes.ensures ∙ c.of-digits.ensures) (omega arith) in omega (arith, c.put_bytes-at.ensures.long)
+pub push_str-requires : goal.push_str-requires
+push_str-requires c =
+    let is : c.as_str.result.now ≡ decimal c.args.n = c.as_str.ensures.value ∙ c.of.ensures ∙ ap decimal c.from.ensures in
+    omega (arith, few_digits c.args.n (omega arith), ap length is)
 
-pub returns : goal.returns
-returns c =
-    let is : c.as_bytes.result.now ≡ decimal c.args.n = c.as_bytes.ensures ∙ c.of-digits.ensures in
-    let few = few_digits c.args.n _ is (omega arith) in
-    record { puts = puts_then (puts_as is c.put_bytes-at.ensures) c.put_bytes.ensures; short = omega (arith, c.put_bytes-at.ensures.long, c.put_bytes.ensures.long) }
+pub push-requires : goal.push-requires
+push-requires c =
+    let is : c.as_str.result.now ≡ decimal c.args.n = c.as_str.ensures.value ∙ c.of.ensures ∙ ap decimal c.from.ensures in
+    omega (arith, few_digits c.args.n (omega arith), ap length is, c.push_str.ensures.len, ap length (encode_ascii c.args.after c.requires.ascii))
+
+pub returns-clause-short : goal.returns-clause-short
+returns-clause-short c = few_digits c.args.n (omega arith)

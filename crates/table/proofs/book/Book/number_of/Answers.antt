@@ -7,6 +7,6 @@ pub overflow_add-result : goal.overflow_add-result
 overflow_add-result c =
     let b = c.args.self.now.numbered c.args.state c.requires in
     let f = below_few c.args.self.now.draft (book_sound c.args.self.now).ranged c.args.state c.requires in
-    let s = c.args.self.now.counts_ranged.1 in
+    let s = c.args.self.now.sound.ranged.counts.1 in
     let p = c.requires in
     omega (arith, b, f)

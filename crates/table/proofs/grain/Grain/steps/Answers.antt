@@ -1,13 +1,8 @@
-use Rattle.std.proofs.Common.{ap, ◌∙◌, arith}
-use Rattle.std.proofs.lemmas.List.{take_all}
-use Rattle.table.specs.Word.{steps}
-use Rattle.table.proofs.Words.{steps_more}
+use Rattle.std.proofs.Common.{◌+◌, refl, arith}
+use Rattle.std.proofs.lemmas.Grind.{common_steps}
+use Rattle.std.proofs.lemmas.List.Recursion.{is_sum_by}
+use Rattle.table.specs.Word.{ticks, steps}
 use Rattle.table.proofs.grain.Grain.steps.Goals as goal
 
 pub loop-entry-preserved : goal.loop-entry-preserved
-loop-entry-preserved c =
-    let h = steps_more c.args.self.parts c.args.word.now c.loop-entry.entry-index (record { wait = 0; input = 0 }) (omega arith) in
-    (omega arith, omega (arith, h, c.ticks.ensures))
-
-pub returns : goal.returns
-returns c = c.loop-entry.invariant.1 ∙ ap (steps c.args.self.parts) (take_all c.loop-entry.entry-index c.args.word.now (omega arith))
+loop-entry-preserved c = grind (arith, common_steps, is_sum_by (steps c.args.self.parts) (λ e. ticks c.args.self.parts e.wait + 1) refl (λ _ _. refl))
