@@ -1,12 +1,11 @@
 -- What a buffer holds after a report was put into it.
-use Rattle.std.proofs.Common.{◌≡◌, ℕ, ◌+◌, ◌<◌, ◌≤◌, true, false, leb, List, [], ◌++◌, length, get_or, take, drop, Ok, Err, ap, ◌∙◌, subst, append_assoc, arith, length-append, take-append-drop}
+use Rattle.std.proofs.Common.{◌≡◌, ℕ, ◌+◌, ◌<◌, ◌≤◌, true, leb, List, [], ◌++◌, length, get_or, take, drop, Ok, ap, ◌∙◌, subst, append_assoc, arith, length-append, take-append-drop}
 use Rattle.std.proofs.lemmas.List.{flat_map_more, take_more, drop-drop}
-use Rattle.std.proofs.lemmas.Bool.{le-leb, lt-leb}
+use Rattle.std.proofs.lemmas.Bool.{le-leb}
 use Rattle.std.proofs.lemmas.Grind.{common_steps}
 use Rattle.std.specs.List.{flat_map}
 use Rattle.text.specs.Put.{Puts}
 use Rattle.text.specs.Write.{filled}
-use Rattle.compare.specs.declared.fault.CompareFault.TheVariants.{Report}
 use Rattle.compare.specs.Report.{reported}
 
 module _ {o p q : List ℕ} {a b e : ℕ} where
@@ -37,6 +36,3 @@ reported_all o p t e put h =
     let f : leb (length t) (length o) ≡ true = le-leb _ _ (omega arith) in
     let whole : p ≡ t ++ drop (length t) o = grind (arith, common_steps, take-append-drop e p, put.front, put.rest) in
     (rw f (ap Ok size), rw f whole)
-
-pub reported_none : (o t : List ℕ) → length o < length t → (Err Report ≡ reported t o) × (o ≡ filled t o)
-reported_none o t h = let f : leb (length t) (length o) ≡ false = lt-leb _ _ h in (rw f, rw f)
