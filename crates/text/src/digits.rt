@@ -12,6 +12,7 @@ const MOST: usize = 20;
 #[derive(Clone, Copy, Debug, PartialEq, Eq)]
 pub struct Digits {
     text: ArrayString<MOST>,
+    ghost short: { length text.bytes ≤ 20 },
 }
 
 impl Digits {

@@ -7,12 +7,12 @@ ghost use Rattle.text.specs.Limits.{max_bytes};
 ghost use Rattle.text.specs.Parts.{ReadsBack};
 ghost use Rattle.text.specs.Write.{head_line, state_line, high_text, guard_text, row_line, canonical, written, filled};
 
-use crate::digits::Digits;
 use crate::draft::*;
 use crate::fault::TextFault;
 use crate::limits::*;
 use crate::mark::{Side, mark_of};
 use arrayvec::ArrayString;
+use itoa::Buffer;
 
 // A text of a book while it is written.
 type Text = ArrayString<MAX_BYTES>;
@@ -24,7 +24,7 @@ fn put_number(text: &mut Text, n: u16, after: u8)
     ensures puts { text.new.bytes ≡ text.old.bytes ++ (decimal n ++ (after ∷ [])) }
     ensures short { length (decimal n) ≤ 5 }
 {
-    text.push_str(Digits::of(u64::from(n)).as_str());
+    text.push_str(Buffer::new().format(n));
     text.push(after as char);
 }
 
@@ -121,19 +121,18 @@ fn put_all<T: Put>(text: &mut Text, all: &[T])
     }
 }
 
-// The whole canonical text, for which there is always room.
+// The whole canonical text, for which an empty text always has room.
 #[tactic(auto, unfolding(crate::specs::Write::canonical))]
-fn canonical_text(draft: &Draft) -> Text
-    ensures { result.bytes ≡ canonical draft.now }
+fn put_draft(text: &mut Text, draft: &Draft)
+    requires empty { text.old.bytes ≡ [] }
+    ensures { text.new.bytes ≡ canonical draft.now }
 {
-    let mut text = ArrayString::new();
-    put_head(&mut text, "inputs", u16::from(draft.inputs));
-    put_head(&mut text, "outputs", u16::from(draft.outputs));
-    put_head(&mut text, "states", draft.states.count);
-    put_all(&mut text, draft.states.as_slice());
-    put_head(&mut text, "rows", draft.rows.count);
-    put_all(&mut text, draft.rows.as_slice());
-    text
+    put_head(text, "inputs", u16::from(draft.inputs));
+    put_head(text, "outputs", u16::from(draft.outputs));
+    put_head(text, "states", draft.states.count);
+    put_all(text, draft.states.as_slice());
+    put_head(text, "rows", draft.rows.count);
+    put_all(text, draft.rows.as_slice());
 }
 
 // Puts the bytes at the buffer's start and answers how many there are; a buffer that is too short stays.
@@ -156,6 +155,7 @@ pub fn write_draft(draft: &Draft, buffer: &mut [u8]) -> Result<usize, TextFault>
     ensures short { length (canonical draft.now) ≤ max_bytes }
     ensures back { Ranged draft.now → ReadsBack draft.now }
 {
-    let text = canonical_text(draft);
+    let mut text = ArrayString::new();
+    put_draft(&mut text, draft);
     fill(buffer, text.as_str().as_bytes())
 }
