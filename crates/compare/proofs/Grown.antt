@@ -22,12 +22,18 @@ pub record Grown (cs ds : List Cell) (tail : ℕ) (c : Cell) (p : ℕ) : Type 0 
   pub here : (at ds p).seen ≡ 1
   pub count : marks ds ≡ marks cs + 1
 
+same_of : {c d : Cell} → c ≡ d → Same c d
+same_of e = record { left = ap (λ (x : Cell). x.left) e; right = ap (λ (x : Cell). x.right) e; parent = ap (λ (x : Cell). x.parent) e; step = ap (λ (x : Cell). x.step) e }
+
+same_then : {c d e : Cell} → Same c d → Same d e → Same c e
+same_then p q = record { left = p.left ∙ q.left; right = p.right ∙ q.right; parent = p.parent ∙ q.parent; step = p.step ∙ q.step }
+
 -- a write at j of a value with the item of what stood there keeps every item
 same_set : (cs : List Cell) (j k : ℕ) (v : Cell) → j < length cs → Same v (at cs j) → Same (at (set cs j v) k) (at cs k)
 same_set cs j k v h s =
     ⊎_elim {C = Same (at (set cs j v) k) (at cs k)}
     (λ (e : k ≡ j). rw (e, get_or-set_same cs j v blank h) s)
-    (λ (ne : k ≢ j). rw get_or-set_other (record { left = refl; right = refl; parent = refl; step = refl }))
+    (λ ne. same_of (get_or-set_other cs j k v blank ne))
     (cases_eq k j)
 
 seen_set : (cs : List Cell) (j k : ℕ) (v : Cell) → j < length cs → v.seen ≡ (at cs j).seen → (at (set cs j v) k).seen ≡ (at cs k).seen
@@ -53,10 +59,9 @@ grown cs tail c p ht hp fresh =
     let first : marks ds + mark (at cs tail).seen ≡ marks cs + mark (at cs tail).seen = sum_by-set (λ (x : Cell). mark x.seen) cs tail _ blank ht in
     let second : marks (marked ds p) + mark (at ds p).seen ≡ marks ds + 1 = sum_by-set (λ (x : Cell). mark x.seen) ds p _ blank inside in
     let none_there : mark (at ds p).seen ≡ 0 = no_mark (at ds p).seen unseen in
-    let new = rw (get_or-set_same cs tail _ blank ht) at (again tail) in
     record {
-      kept = λ k ne. rw (get_or-set_other cs tail k _ blank ne) at (again k);
-      new = record { left = new.left; right = new.right; parent = new.parent; step = new.step };
+      kept = λ k ne. same_then (again k) (same_of (get_or-set_other cs tail k _ blank ne));
+      new = same_then (again tail) (same_then (same_of (get_or-set_same cs tail _ blank ht)) (record { left = refl; right = refl; parent = refl; step = refl }));
       seen = λ q ne. rw (get_or-set_other ds p q _ blank ne) (seen_set cs tail q _ ht refl);
       here = ap (λ (x : Cell). x.seen) (get_or-set_same ds p _ blank inside);
       count = omega arith;

@@ -6,3 +6,4 @@ pub mod Walks
 pub mod Verdicts
 pub mod Partners
 pub mod Reports
+pub mod Judging

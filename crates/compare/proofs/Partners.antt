@@ -1,14 +1,17 @@
 -- After a whole search the marks say which pairs strings lead to.
-use Rattle.std.proofs.Common.{◌≡◌, ℕ, ◌<◌, ◌≤◌, ◌≢◌, List, [], ◌∷◌, take, Some, None, Option, MatchOption, refl, ◌∙◌, inl, arith, get_or-take}
+use Rattle.std.proofs.Common.{◌≡◌, ℕ, ◌<◌, ◌≤◌, ◌≢◌, List, [], ◌∷◌, ◌++◌, length, take, Some, None, Ok, Option, MatchOption, sym, refl, ap, ◌∙◌, subst, inl, arith, get_or-take}
+use Rattle.std.proofs.lemmas.List.{get_or_past, take_at}
 use Rattle.table.specs.Meaning.{Meaning, Lawful}
 use Rattle.table.specs.Steps.{Over, leads}
 use Rattle.table.specs.declared.word.Step.{Step}
 use Rattle.table.proofs.Strings.{leads_in}
 use Rattle.compare.specs.Cell.{blank}
 use Rattle.compare.specs.Compare.{cells_needed}
-use Rattle.compare.specs.Partner.{Reached, Together, Partner, CellsSearched}
-use Rattle.compare.specs.Search.{at, pair_number, Queued, Inv}
+use Rattle.compare.specs.Partner.{Reached, Together, Partner, CellsSearched, SearchedIfAlike}
+use Rattle.compare.specs.Search.{at, pair_number, Queued, Inv, Searched}
 use Rattle.compare.specs.declared.cell.Cell.{Cell}
+use Rattle.compare.specs.declared.compare.Verdict.{Verdict}
+use Rattle.compare.specs.declared.compare.Verdict.TheVariants.{Alike, Different}
 use Rattle.compare.proofs.Queue.{first_left, first_right}
 use Rattle.compare.proofs.Visits.{number_in}
 
@@ -56,3 +59,12 @@ module _ (m n : Meaning) (cs : List Cell) (holding : CellsSearched m n cs) where
 
 pub reached_in : (m : Meaning) → Lawful m → (s : ℕ) → Reached m s → s < m.count
 reached_in m law s r = rw r.leads_there at (leads_in m law r.string m.start r.over law.start_in)
+
+-- past the end of the cells there is no mark
+pub unmarked_past : (cs : List Cell) (k : ℕ) → length cs ≤ k → (at cs k).seen ≢ 1
+unmarked_past cs k h e = omega (arith, ap (λ (c : Cell). c.seen) (get_or_past cs k blank h), e)
+
+-- a search in the first part of the cells
+pub part_searched : (m n : Meaning) (v : Verdict) (part rest : List Cell) → length part ≡ cells_needed m n → (v ≡ Alike → Searched m n part) → SearchedIfAlike m n (Ok v) (part ++ rest)
+part_searched m n Alike part rest long searched = subst (λ (cs : List Cell). Searched m n cs) (sym (take_at part rest (cells_needed m n) long)) (searched refl)
+part_searched m n (Different count entries) part rest long searched = tt

@@ -42,19 +42,19 @@ number_within r (Take i) f = omega arith
 
 -- one number stands for one pair
 
-same_left : (w a b c d : ℕ) → b < w → d < w → pair_number w a b ≡ pair_number w c d → a ≡ c
-same_left w a b c d hb hd e = sym (div-mul-add a w b hb) ∙ ap (λ (x : ℕ). x / w) e ∙ div-mul-add c w d hd
+pub row_same : (w a b c d : ℕ) → b < w → d < w → pair_number w a b ≡ pair_number w c d → a ≡ c
+row_same w a b c d hb hd e = sym (div-mul-add a w b hb) ∙ ap (λ (x : ℕ). x / w) e ∙ div-mul-add c w d hd
 
-same_right : (w a b c d : ℕ) → b < w → d < w → pair_number w a b ≡ pair_number w c d → b ≡ d
-same_right w a b c d hb hd e = sym (mod-mul-add a w b hb) ∙ ap (λ (x : ℕ). x % w) e ∙ mod-mul-add c w d hd
+pub column_same : (w a b c d : ℕ) → b < w → d < w → pair_number w a b ≡ pair_number w c d → b ≡ d
+column_same w a b c d hb hd e = sym (mod-mul-add a w b hb) ∙ ap (λ (x : ℕ). x % w) e ∙ mod-mul-add c w d hd
 
 -- the pair of the new item stands at the tail
 pub queued_new : {cs ds : List Cell} {tail : ℕ} {c : Cell} {p : ℕ} → Grown cs ds tail c p → (w a b : ℕ) → b < w → c.right < w → pair_number w a b ≡ pair_number w c.left c.right → Queued ds (tail + 1) a b
 queued_new {tail = tail} {c = c} gr w a b hb hc e = record {
   place = tail;
   below = omega arith;
-  is_left = gr.new.left ∙ sym (same_left w a b c.left c.right hb hc e);
-  is_right = gr.new.right ∙ sym (same_right w a b c.left c.right hb hc e);
+  is_left = gr.new.left ∙ sym (row_same w a b c.left c.right hb hc e);
+  is_right = gr.new.right ∙ sym (column_same w a b c.left c.right hb hc e);
 }
 
 -- what is dealt with after one step more

@@ -10,6 +10,7 @@ use Rattle.compare.specs.Compare.{Decided}
 use Rattle.compare.specs.Search.{Searched, Told}
 use Rattle.compare.specs.Spell.{takes, Chain, Chained, Counted, Tallied, Spelled}
 use Rattle.compare.specs.declared.cell.Cell.{Cell}
+use Rattle.compare.specs.declared.compare.Verdict.{Verdict}
 use Rattle.compare.specs.declared.compare.Verdict.TheVariants.{Alike as FoundAlike, Different}
 use Rattle.compare.proofs.Grown.{tail_room}
 use Rattle.compare.proofs.Findings.{all_same, Shortest, shortest}
@@ -33,10 +34,7 @@ module _ {m n : Meaning} {cs : List Cell} {place input : ℕ} (told : Told m n c
       let z : takes (told.strings 0) ≡ 0 = ap takes told.inv.root in
       record { strings = told.strings; chain = chain; count_is = omega (arith, tallied told.strings chain) }
 
-  module _ (entries : ℕ) (after : List Entry) (spelled : Spelled cs place input 0 (take entries after)) where
-    abbrev word : List Entry
-    word = take entries after
-
+  module _ (word : List Entry) (spelled : Spelled cs place input 0 word) where
     string_is : string 2 word ≡ told.strings place ++ (Take input ∷ [])
     string_is = rw told.inv.root at (spelled told.strings chain)
 
@@ -49,22 +47,31 @@ module _ {m n : Meaning} {cs : List Cell} {place input : ℕ} (told : Told m n c
     least : Shortest m n (string 2 word)
     least = shortest m n cs place input told (string 2 word) string_is
 
+  module _ (entries : ℕ) (after : List Entry) (spelled : Spelled cs place input 0 (take entries after)) where
+    abbrev word : List Entry
+    word = take entries after
+
     pub told_different : {before : List Entry} → entries ≤ length after → length after ≡ length before → drop entries after ≡ drop entries before → Decided m n (Different (steps 2 word) entries) before after
-    told_different fits long rest = record {
-      fits = fits;
-      long = long;
-      rest = rest;
-      tells = record {
-        grain = omega arith;
-        inputs = string_within m.inputs 2 word least.over;
-        other = λ same. least.tells (string_answers m 2 word m.start ∙ same ∙ sym (string_answers n 2 word n.start));
-      };
-      counted = refl;
-      fewest = λ q w t.
-          omega (
-            arith,
-            string_length 2 word,
-            string_length q w,
-            least.least (string q w) (string_over m.inputs q w t.inputs) (λ same. t.other (sym (string_answers m q w m.start) ∙ same ∙ string_answers n q w n.start)),
-          );
-    }
+    told_different fits long rest =
+        let found : Shortest m n (string 2 word) = least word spelled in
+        record {
+          fits = fits;
+          long = long;
+          rest = rest;
+          tells = record {
+            grain = omega arith;
+            inputs = string_within m.inputs 2 word found.over;
+            other = λ same. found.tells (string_answers m 2 word m.start ∙ same ∙ sym (string_answers n 2 word n.start));
+          };
+          counted = refl;
+          fewest = λ q w t.
+              omega (
+                arith,
+                string_length 2 word,
+                string_length q w,
+                found.least (string q w) (string_over m.inputs q w t.inputs) (λ same. t.other (sym (string_answers m q w m.start) ∙ same ∙ string_answers n q w n.start)),
+              );
+        }
+
+pub differs : (v : Verdict) (count entries : ℕ) → v ≡ Different count entries → v ≡ FoundAlike → ⊥
+differs v count entries p q = cc

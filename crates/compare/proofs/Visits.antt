@@ -89,7 +89,7 @@ module _ {m n : Meaning} {cs : List Cell} {tail head : ℕ} {from : Cell} {s : S
     }
 
   -- one step more of the head is dealt with
-  visiting_more : ((i : ℕ) → i + 1 < number_of s + 1 → output m from.left i ≡ output n from.right i) → (es : List Cell) (end : ℕ) → Queueing n.count cs es tail c end → Visiting m n es end head from (number_of s + 1)
+  pub visiting_more : ((i : ℕ) → i + 1 < number_of s + 1 → output m from.left i ≡ output n from.right i) → (es : List Cell) (end : ℕ) → Queueing n.count cs es tail c end → Visiting m n es end head from (number_of s + 1)
   visiting_more same es end q =
       ⊎_elim {C = Visiting m n es end head from (number_of s + 1)}
       (λ (seen : (at cs (pair_number n.count c.left c.right)).seen ≡ 1).
@@ -105,6 +105,15 @@ module _ {m n : Meaning} {cs : List Cell} {tail head : ℕ} {from : Cell} {s : S
 pub visiting_first : {m n : Meaning} {cs : List Cell} {tail head : ℕ} → head < tail → Holds m n cs tail head 0 → Visiting m n cs tail head (at cs head) 0
 visiting_first more holds = record { more = more; holds = holds; is_left = refl; is_right = refl; same = λ i h. absurd (omega arith) }
 
+-- the outputs agree at one input more
+pub same_more : (m n : Meaning) (a b input : ℕ) (x y : ℕ × ℕ) → x ≡ m.take a input → y ≡ n.take b input → x.1 ≡ y.1 → ((i : ℕ) → i + 1 < input + 1 → output m a i ≡ output n b i) → (i : ℕ) → i + 1 < input + 1 + 1 → output m a i ≡ output n b i
+same_more m n a b input x y is_x is_y same below i h =
+    let here : output m a input ≡ output n b input = sym (ap (λ (p : ℕ × ℕ). p.1) is_x) ∙ same ∙ ap (λ (p : ℕ × ℕ). p.1) is_y in
+    ⊎_elim {C = output m a i ≡ output n b i}
+    (λ (e : i ≡ input). subst (λ (j : ℕ). output m a j ≡ output n b j) (sym e) here)
+    (λ ne. below i (omega (arith, ne)))
+    (cases_eq i input)
+
 module _ {m n : Meaning} {cs : List Cell} {tail head : ℕ} {from c : Cell} (es : List Cell) (end : ℕ) (q : Queueing n.count cs es tail c end) where
   -- the tick of the head is dealt with
   pub visiting_tick : Stepping m n cs tail head from Tick c → Visiting m n es end head from 1
@@ -112,14 +121,7 @@ module _ {m n : Meaning} {cs : List Cell} {tail head : ℕ} {from c : Cell} (es 
 
   -- a take of the head is dealt with, at which the outputs agree
   pub visiting_take : {input : ℕ} → Stepping m n cs tail head from (Take input) c → output m from.left input ≡ output n from.right input → Visiting m n es end head from (input + 1 + 1)
-  visiting_take {input} st here =
-      visiting_more st
-      (λ i h.
-      ⊎_elim {C = output m from.left i ≡ output n from.right i}
-      (λ (e : i ≡ input). subst (λ (j : ℕ). output m from.left j ≡ output n from.right j) (sym e) here)
-      (λ ne. st.visiting.same i (omega (arith, ne)))
-      (cases_eq i input))
-      es end q
+  visiting_take {input} st here = visiting_more st (same_more m n from.left from.right input _ _ refl refl here st.visiting.same) es end q
 
 -- the outputs agree at every input of the head
 pub visit_agrees : {m n : Meaning} {cs : List Cell} {tail head : ℕ} {from : Cell} {done : ℕ} → Visiting m n cs tail head from done → done ≡ m.inputs + 1 → Holds m n cs tail (head + 1) 0

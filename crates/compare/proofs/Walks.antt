@@ -78,16 +78,16 @@ from_set es i high e h room =
     let more : high - i ≡ suc (high - (i + 1)) = omega arith in
     rw (more, drop-set es i e room) refl
 
-module _ {cs : List Cell} {place input entries : ℕ} {old : List Entry} {item slot wait next : ℕ} {es : List Entry} (walk : Walk cs place input entries old item slot wait next es) where
-  pub walk_chained : Chained cs place
-  walk_chained = record { strings = walk.counted.strings; chain = walk.counted.chain }
+pub walk_chained : (cs : List Cell) (place item slot : ℕ) → Counted cs place item slot → Chained cs place
+walk_chained cs place item slot cd = record { strings = cd.strings; chain = cd.chain }
 
+module _ {cs : List Cell} {place input entries : ℕ} {old : List Entry} {item slot wait next : ℕ} {es : List Entry} (walk : Walk cs place input entries old item slot wait next es) where
   inside : entries ≤ length old → slot < length es
   inside room = omega (arith, walk.low, walk.long)
 
   module _ (pos : 0 < item) where
     back : (at cs item).parent < item
-    back = earlier cs place item pos walk.up walk_chained
+    back = earlier cs place item pos walk.up (walk_chained cs place item slot walk.counted)
 
     pub walk_tick : step_of (at cs item).step ≡ Tick → Walk cs place input entries old (at cs item).parent slot (wait + 1) next es
     walk_tick is = record {

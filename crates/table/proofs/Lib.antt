@@ -2,6 +2,7 @@ pub mod Soundness
 pub mod RowLists
 pub mod FirstFaults
 pub mod Freshes
+pub mod Words
 pub mod Views
 pub mod Ticks
 pub mod Strings

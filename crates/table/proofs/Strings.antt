@@ -1,8 +1,8 @@
 -- Strings of steps and the timed words that stand for them: each draws what the other draws, in as many steps.
-use Rattle.std.proofs.Common.{◌≡◌, ℕ, zero, suc, ◌+◌, ◌<◌, List, [], ◌∷◌, ◌++◌, length, sym, refl, ◌∙◌, arith, length-append}
+use Rattle.std.proofs.Common.{◌≡◌, ℕ, zero, suc, ◌+◌, ◌<◌, List, [], ◌∷◌, ◌++◌, length, sym, refl, ap, ◌∙◌, arith, length-append}
 use Rattle.table.specs.Meaning.{Meaning, Lawful, next}
 use Rattle.table.specs.Word.{ticks, ticked, Within, drawn, steps, Alike}
-use Rattle.table.specs.Steps.{Fit, Over, after, leads, answers, waiting, string}
+use Rattle.table.specs.Steps.{Fit, Over, after, leads, heard, answers, waiting, string}
 use Rattle.table.specs.declared.word.Entry.{Entry}
 use Rattle.table.specs.declared.word.Step.{Step}
 use Rattle.table.specs.declared.word.Step.TheVariants.{Tick, Take}
@@ -18,10 +18,13 @@ pub leads_append : (m : Meaning) (u w : List Step) (s : ℕ) → leads m (u ++ w
 leads_append m [] w s = refl
 leads_append m (x ∷ u) w s = leads_append m u w (after m x s)
 
+heard_append : (m : Meaning) (x : Step) (s : ℕ) (os ps : List ℕ) → heard m x s (os ++ ps) ≡ heard m x s os ++ ps
+heard_append m Tick s os ps = refl
+heard_append m (Take i) s os ps = refl
+
 pub answers_append : (m : Meaning) (u w : List Step) (s : ℕ) → answers m (u ++ w) s ≡ answers m u s ++ answers m w (leads m u s)
 answers_append m [] w s = refl
-answers_append m (Tick ∷ u) w s = answers_append m u w (m.tick s)
-answers_append m (Take i ∷ u) w s = grind (arith, answers_append m u w)
+answers_append m (x ∷ u) w s = ap (heard m x s) (answers_append m u w (after m x s)) ∙ heard_append m x s (answers m u (after m x s)) _
 
 pub length_push : (w : List Step) (x : Step) → length (w ++ (x ∷ [])) ≡ length w + 1
 length_push w x = length-append w (x ∷ [])

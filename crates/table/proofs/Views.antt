@@ -1,7 +1,8 @@
--- A view's table: where it has no fault each entry is an output, and the first entry that is none is its fault.
-use Rattle.std.proofs.Common.{◌≡◌, ℕ, ◌<◌, Bool, false, leb, List, length, get_or, Some, None, Ok, Err, Option, Result, sym, ◌∙◌, zero-add, arith}
+-- A view's table: where it has no fault each entry is an output, the first entry that is none is its fault, and what the machine below
+-- draws is an output.
+use Rattle.std.proofs.Common.{◌≡◌, ℕ, ◌<◌, ◌≤◌, Bool, false, ◌&&◌, ltb, leb, List, length, get_or, Some, None, Ok, Err, Option, Result, sym, ap, subst, ◌∙◌, zero-add, arith}
 use Rattle.std.specs.List.{position}
-use Rattle.std.proofs.lemmas.Bool.{leb-false}
+use Rattle.std.proofs.lemmas.Bool.{leb-false, le-leb, lt-leb, and_parts, ltb-true}
 use Rattle.std.proofs.lemmas.List.{ext_get_or}
 use Rattle.std.proofs.lemmas.List.FromFn.{length-range_with_len, get_or-range_with_len}
 use Rattle.std.proofs.lemmas.List.Quantifiers.{position-Some}
@@ -10,9 +11,10 @@ use Rattle.text.specs.Limits.{max_outputs}
 use Rattle.table.specs.declared.fault.TableFault.{TableFault}
 use Rattle.table.specs.declared.fault.TableFault.TheVariants.{Output}
 use Rattle.table.specs.First.{unless_fault}
+use Rattle.table.specs.Meaning.{Meaning, Lawful, given_if}
 use Rattle.table.specs.View.{AllOutputs, same_outputs, entry_fault, table_fault}
 use Rattle.table.specs.Firsts.{first_at, first_none, first_all}
-use Rattle.table.specs.GivenIf.{given_none}
+use Rattle.table.specs.GivenIf.{given_some, given_none}
 
 pub faultless_outputs : (es : List ℕ) → table_fault es ≡ None → AllOutputs es
 faultless_outputs es none k l = leb-false max_outputs (get_or es k 0) (given_none _ _ (first_none (entry_fault es) max_outputs none k l))
@@ -44,3 +46,16 @@ module _ (es : List ℕ) (each : (k : ℕ) → k < max_outputs → get_or es k 0
   each_at_itself l =
       ext_get_or 0 es same_outputs (l ∙ sym (length-range_with_len 0 max_outputs))
       (λ k m. each k (omega arith) ∙ sym (get_or-range_with_len 0 max_outputs k 0 (omega arith) ∙ zero-add k))
+
+pub entry_refused : (es : List ℕ) (k : ℕ) → max_outputs ≤ get_or es k 0 → entry_fault es k ≡ Some (Output k)
+entry_refused es k l = ap (λ b. given_if b (Output k)) (le-leb _ _ l)
+
+pub entry_passes : (es : List ℕ) (k : ℕ) → get_or es k 0 < max_outputs → entry_fault es k ≡ None
+entry_passes es k l = ap (λ b. given_if b (Output k)) (lt-leb _ _ l)
+
+-- the output of a take that was answered is below the limit
+pub taken_small : (m : Meaning) → Lawful m → (s i next output : ℕ) → ◌≡◌ {A = Option (ℕ × ℕ)} (Some (next, output)) (given_if (ltb s m.count && ltb i m.inputs) (m.take s i)) → output < max_outputs
+taken_small m law s i next output e =
+    let g = given_some (ltb s m.count && ltb i m.inputs) (next, output) (m.take s i) (sym e) in
+    let p = and_parts _ _ g.0 in
+    subst (λ (x : ℕ × ℕ). x.1 < max_outputs) g.1 (law.output_in s i (ltb-true _ _ p.0) (ltb-true _ _ p.1))

@@ -12,6 +12,7 @@ pub mod Sound
 pub mod Clocks
 pub mod Soundness
 pub mod Offsets
+pub mod Padding
 pub mod Fresh
 pub mod BookMachine
 pub mod View
@@ -20,6 +21,7 @@ pub mod Allowance
 pub mod Read
 pub mod Allowances
 pub mod Books
+pub mod Paddings
 pub mod Answering
 pub mod GivenIf
 pub mod Firsts

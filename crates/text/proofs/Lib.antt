@@ -11,3 +11,5 @@ pub mod Refusals
 pub mod Filling
 pub mod Places
 pub mod Drafts
+pub mod Decimal
+pub mod Puts

@@ -1,11 +1,11 @@
 -- What the lexer's calls say of the part at a place.
-use Rattle.std.proofs.Common.{◌≡◌, ℕ, ◌+◌, ◌-◌, ◌<◌, ◌≤◌, true, false, ltb, cond, List, [], ◌∷◌, length, get_or, take, drop, Some, Option, sym, ap, ◌∙◌, ⊎_elim, arith, length-drop}
+use Rattle.std.proofs.Common.{◌≡◌, ℕ, ◌+◌, ◌-◌, ◌<◌, ◌≤◌, true, false, ltb, cond, List, [], ◌∷◌, length, get_or, take, drop, Some, None, Option, sym, ap, ◌∙◌, ⊎_elim, arith, length-drop}
 use Rattle.std.proofs.lemmas.List.{drop-drop, drop_more, drop_all}
 use Rattle.std.specs.Bool.{then_some}
 use Rattle.std.proofs.lemmas.Bool.{cases_lt, lt-ltb, le-ltb}
 use Rattle.text.specs.declared.token.Kind.{Kind}
 use Rattle.text.specs.declared.token.Kind.TheVariants.{Blank, Letter, Digit}
-use Rattle.text.specs.Token.{is_of, is_mark, run, numeral, word, mark, got, no, numbered, skip, part, first_part}
+use Rattle.text.specs.Token.{is_of, is_mark, run, numeral, word, number, mark, end, got, no, numbered, skip, part, first_part}
 use Rattle.text.specs.declared.fault.TextFault.TheVariants.{Malformed}
 
 -- past a run that ends at e
@@ -52,3 +52,25 @@ module _ (xs : List ℕ) (at start : ℕ) (from : start ≡ at + run Blank (drop
 
 pub numbered_as : (o p : Option ℕ) (bs more : List ℕ) → p ≡ o → numbered o bs more ≡ numbered p bs more
 numbered_as o p bs more e = ap (λ q. numbered q bs more) (sym e)
+
+pub number_some : (o : Option ℕ) (n : ℕ) (from rest : List ℕ) → Some n ≡ o → numbered o from rest ≡ got (number n) rest
+number_some o n from rest e = numbered_as o (Some n) from rest e
+
+pub number_none : (o : Option ℕ) (from rest : List ℕ) → None ≡ o → numbered o from rest ≡ no Malformed from
+number_none o from rest e = numbered_as o None from rest e
+
+module _ (xs : List ℕ) (at start : ℕ) (from : start ≡ at + run Blank (drop at xs)) where
+  pub at_end : length xs ≤ start → (part (skip (drop at xs)) ≡ got end (drop (length xs) xs)) × (skip (drop at xs) ≡ drop (length xs) xs)
+  at_end h =
+      let none : skip (drop at xs) ≡ [] = skipped xs at start from ∙ drop_all start xs h in
+      let all : drop (length xs) xs ≡ [] = drop_all (length xs) xs (omega arith) in
+      (rw (none, all), none ∙ sym all)
+
+  pub first_some : start < length xs → Some start ≡ first_part xs at
+  first_some h = rw (lt-ltb _ _ h) at (first_is xs at start from)
+
+  pub first_none : length xs ≤ start → None ≡ first_part xs at
+  first_none h = rw (le-ltb _ _ h) at (first_is xs at start from)
+
+  pub at_mark : start < length xs → false ≡ is_of Letter (get_or xs start 0) → false ≡ is_of Digit (get_or xs start 0) → part (skip (drop at xs)) ≡ cond (is_mark (get_or xs start 0)) (got (mark (get_or xs start 0)) (drop (start + 1) xs)) (no Malformed (drop start xs))
+  at_mark h l d = ap part (skipped xs at start from) ∙ part_mark (drop start xs) _ _ (drop_more xs start 0 h) l d

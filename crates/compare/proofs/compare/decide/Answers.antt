@@ -1,4 +1,4 @@
-use Rattle.std.proofs.Common.{◌≤◌, length, arith}
+use Rattle.std.proofs.Common.{◌≤◌, length, take, arith}
 use Rattle.table.specs.Means.{means}
 use Rattle.compare.specs.Search.{max_pairs}
 use Rattle.compare.proofs.Verdicts.{searched_alike, told_inside, told_counted, told_short, told_different}
@@ -26,7 +26,7 @@ fits g c = omega (arith, told_inside c.in-Err.ensures)
 pub different-requires : goal.different-requires
 different-requires g c = record {
   inside = fits g (goal.at.different-requires g c).After-spell;
-  few = omega (arith, told_inside c.in-Err.ensures, few_cells g (goal.at.different-requires g c).In-Err, told_short c.in-Err.ensures c.count_entries-entries.result c.spell.new.word c.spell.ensures.written);
+  few = omega (arith, told_inside c.in-Err.ensures, few_cells g (goal.at.different-requires g c).In-Err, told_short c.in-Err.ensures (take c.count_entries-entries.result c.spell.new.word) c.spell.ensures.written);
 }
 
 pub returns-in-Ok-clause-decided : goal.returns-in-Ok-clause-decided

@@ -1,13 +1,9 @@
 use Rattle.std.proofs.Common.{length, ap, arith}
 use Rattle.std.proofs.lemmas.List.Folds.{length-flat_map-take}
-use Rattle.table.specs.declared.word.Entry.{Entry}
 use Rattle.compare.specs.Report.{entry_line}
-use Rattle.compare.proofs.Reports.{puts_line, puts_as}
+use Rattle.text.proofs.Puts.{puts_line, puts_as}
+use Rattle.compare.proofs.Reports.{no_entry}
 use Rattle.compare.proofs.report.put_lines.Goals as goal
-
--- what stands past the last entry
-abbrev no_entry : Entry
-no_entry = record { wait = 0; input = 0 }
 
 pub put_line-at-requires : goal.put_line-at-requires
 put_line-at-requires c =

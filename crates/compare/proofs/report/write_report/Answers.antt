@@ -1,7 +1,8 @@
 use Rattle.std.proofs.Common.{◌≤◌, length, ap, arith}
 use Rattle.std.specs.List.{flat_map}
 use Rattle.compare.specs.Report.{entry_line}
-use Rattle.compare.proofs.Reports.{puts_then, puts_as, reported_all}
+use Rattle.text.proofs.Puts.{puts_then, puts_as}
+use Rattle.compare.proofs.Reports.{reported_all}
 use Rattle.compare.proofs.report.write_report.Goals as goal
 
 pub returns : goal.returns
