@@ -1,6 +1,6 @@
 //! The numbers of a book's states and stretches, one after another.
 
-ghost use Rattle.std.specs.Prelude.{◌≡◌, ◌≤◌, nat_lt, drop, position};
+ghost use Rattle.std.specs.Prelude.{◌≡◌, ◌≤◌, nat_lt, drop, position, take};
 ghost use Rattle.table.specs.Meaning.{given_if};
 ghost use Rattle.table.specs.Offsets.{Offsets, ZerosBehind, all_stretches, number, place};
 
@@ -46,10 +46,13 @@ impl Book {
         Some((state as u8, (sought - self.offsets[state]) as u8))
     }
 
-    /// The first state whose stretches end past the number sought. Past the number of all stand zeros.
+    /// The first state whose stretches end past the number sought.
     fn state_of(&self, sought: u16) -> Option<usize>
-        ensures { result ≡ position (nat_lt sought) (drop 1 self.now.offsets) }
+        ensures { result ≡ position (nat_lt sought) (take self.now.draft.states.count (drop 1 self.now.offsets)) }
     {
-        self.offsets[1..].iter().position(|end| sought < *end)
+        // Only up to the count: over the whole array the compiler, which knows its length, makes code that compares every end.
+        self.offsets[1..=usize::from(self.draft.states.count)]
+            .iter()
+            .position(|end| sought < *end)
     }
 }
