@@ -3,7 +3,7 @@
 //! Each line is pushed into a text of its own. An impl of `Display` would not do: its contract says nothing of a `fmt` that fails,
 //! and the report's contract says every byte.
 
-ghost use Rattle.std.specs.Prelude.{◌≡◌, ◌+◌, ◌*◌, ◌≤◌, ◌++◌, length, IfOk};
+ghost use Rattle.std.specs.Prelude.{◌≡◌, ◌+◌, ◌*◌, ◌≤◌, ◌++◌, length, IfOk, decimal};
 ghost use Rattle.std.specs.List.{flat_map};
 ghost use Rattle.arrayvec.specs.ArrayString.{array_string_len};
 ghost use Rattle.text.specs.Put.{Puts};
@@ -14,9 +14,9 @@ use crate::compare::Verdict;
 use crate::fault::CompareFault;
 use crate::outcome::{Finding, Outcome, Refusal};
 use arrayvec::ArrayString;
+use itoa::Buffer;
 use table::fault::Place;
 use table::word::Entry;
-use text::digits::Digits;
 use text::put::put;
 
 // Room for the first line of any report.
@@ -33,7 +33,7 @@ fn push_field<const CAP: usize>(line: &mut ArrayString<CAP>, n: u64)
     ensures short { array_string_len line.new ≤ array_string_len line.old + FIELD_ROOM }
 {
     line.push_str(" ");
-    line.push_str(Digits::of(n).as_str());
+    line.push_str(Buffer::new().format(n));
 }
 
 // The numbers of a fault's place.
@@ -114,10 +114,31 @@ fn line_of(entry: Entry) -> ArrayString<ENTRY_ROOM>
     ensures { result.bytes ≡ entry_line entry }
 {
     let mut line = ArrayString::new();
-    line.push_str(Digits::of(u64::from(entry.wait)).as_str());
+    line.push_str(Buffer::new().format(entry.wait));
     push_field(&mut line, u64::from(entry.input));
     line.push_str("\n");
     line
+}
+
+// How many digits a number has. They are counted and not written: written for the count too, they would cost each line twice.
+fn count_digits(n: u32) -> usize
+    ensures is { result ≡ length (decimal n) }
+    ensures few { result ≤ 10 }
+{
+    let mut digits = 1;
+    let mut rest = n;
+    while rest >= 10 {
+        rest /= 10;
+        digits += 1;
+    }
+    digits
+}
+
+// How long the line of an entry is, without building it.
+fn line_length(entry: Entry) -> usize
+    ensures { result ≡ length (entry_line entry) }
+{
+    count_digits(entry.wait) + count_digits(u32::from(entry.input)) + 2
 }
 
 // How long the lines of the entries are.
@@ -126,7 +147,7 @@ fn lines_length(entries: &[Entry]) -> u128
 {
     entries
         .iter()
-        .map(|entry| line_of(*entry).len() as u128)
+        .map(|entry| line_length(*entry) as u128)
         .sum()
 }
 
