@@ -21,15 +21,20 @@ const ENTRIES: usize = 1_024;
 
 const REPORT_BYTES: usize = 16_384;
 
-// Reads until the input ends or the buffer is full, and answers how many bytes came.
-fn read_input(input: impl Read + Drop, buffer: &mut [u8]) -> io::Result<usize>
+// Reads until the input ends or the buffer is full, and answers how many bytes came. Each read is given the whole rest of the
+// buffer, since a socket of messages drops what a shorter one leaves; the library's `io::copy` reads by pieces of 8 KiB.
+fn read_input(mut input: impl Read + Drop, buffer: &mut [u8]) -> io::Result<usize>
     ensures { IfOk result (λ n. n ≤ length buffer.old) }
 {
-    let size = buffer.len();
-    let mut rest = buffer;
-    let count = io::copy(&mut input.take(size as u64), &mut rest)?;
-    // The library bounds the count only where it knows what the input holds.
-    Ok((count as usize).min(size))
+    let mut length = 0;
+    while length < buffer.len() {
+        let count = input.read(&mut buffer[length..])?;
+        if count == 0 {
+            break;
+        }
+        length += count;
+    }
+    Ok(length)
 }
 
 // Judges the input and prints the report.
