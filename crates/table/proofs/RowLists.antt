@@ -64,6 +64,12 @@ fold_one : {X : Type 0} (f : ℕ → X → ℕ) (a : ℕ) (x : X) (b : Bool) →
 fold_one f a x true = refl
 fold_one f a x false = refl
 
+-- what a filter leaves out a fold can pass over itself
+pub fold_filter : {X : Type 0} (p : X → Bool) (f : ℕ → X → ℕ) (a : ℕ) (xs : List X) → fold f a (filter p xs) ≡ fold (λ b x. cond (p x) (f b x) b) a xs
+fold_filter p f a [] = refl
+fold_filter p f a (x ∷ xs) =
+    elim (p x) as (λ b. fold f a (cond b (x ∷ filter p xs) (filter p xs)) ≡ fold (λ c y. cond (p y) (f c y) c) (cond b (f a x) a) xs) [ true ↦ fold_filter p f (f a x) xs | false ↦ fold_filter p f a xs ]
+
 pub greatest_is : (d : Draft) (s n : ℕ) → n ≤ length d.rows.all → fold (λ a (w : Row). max a (last_end w.guard)) 0 (filter (λ (w : Row). eqb w.state s) (take n d.rows.all)) ≡ greatest_end d s n
 greatest_is d s zero l = refl
 greatest_is d s (suc n) l =
