@@ -27,7 +27,9 @@ impl<'a> Table<'a> {
     pub(crate) fn rows(self) -> &'a [Row]
         ensures { result.now ≡ take self.entry.draft.now.rows.count self.entry.draft.now.rows.all }
     {
-        self.draft.rows.as_slice()
+        // Not by `as_slice`, which has to bound the count: a table carries that it fits.
+        let rows = &self.draft.rows;
+        &rows.all[..usize::from(rows.count)]
     }
 
     /// Whether some row belongs to the state and the input.
