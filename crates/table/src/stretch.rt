@@ -12,8 +12,8 @@ impl Table<'_> {
     fn greatest_end_of(self, state: u8) -> u8
         ensures { result ≡ greatest_end self.entry.draft.now state self.entry.draft.now.rows.count }
     {
-        // Other states' rows are passed over in the fold itself: behind a `filter` each row costs the compiled loop a third more, and a
-        // tick is no longer small enough to be built into the search.
+        // Other states' rows are passed over in the fold itself: behind a `filter` each row costs the compiled loop a third more, and with
+        // `max` at its end a tick was no longer small enough to be built into the search.
         self.rows().iter().fold(0, |greatest, row| {
             if row.state == state {
                 greatest_end(row.guard).max(greatest)
